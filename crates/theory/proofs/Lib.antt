@@ -1,0 +1,16 @@
+pub mod Algebra
+pub mod Bits
+pub mod Bounded
+pub mod Codes
+pub mod Divisors
+pub mod Fields
+pub mod Images
+pub mod JoiningLaws
+pub mod Lists
+pub mod Odd
+pub mod Pairing
+pub mod PowerLaws
+pub mod Powers
+pub mod RingRatios
+pub mod Search
+pub mod Solver
