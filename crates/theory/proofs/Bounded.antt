@@ -1,11 +1,13 @@
 -- Below a bound, what can be decided of each number is had by one of them or by none.
-use mathlib.Core.Path.{_≡_, sym, subst}
+use mathlib.Core.Path.{_≡_, subst}
 use mathlib.Core.Logic.{_⊎_, inl, inr}
-use Prim.Native.Nat.{ℕ, zero, suc, _≤_, _<_}
+use Prim.Native.Nat.{ℕ, zero, suc, _<_}
 use native.Mathlib.Decide.{ℕ-discrete}
 use native.Mathlib.Omega.{arith}
 
-pub bounded : (P : ℕ → Type 0) → ((i : ℕ) → Dec (P i)) → (n : ℕ) → ((i : ℕ) × (i < n) × P i) ⊎ ((i : ℕ) → i < n → P i → ⊥)
+-- Where P can be decided, some number below n has it, or none has.
+pub bounded : (P : ℕ → Type 0) → ((i : ℕ) → Dec (P i)) → (n : ℕ)
+    → ((i : ℕ) × (i < n) × P i) ⊎ ((i : ℕ) → i < n → P i → ⊥)
 bounded P decide zero = inr (λ i h p. absurd (omega arith))
 bounded P decide (suc n) = from (decide n) (bounded P decide n)
   where
@@ -20,7 +22,8 @@ bounded P decide (suc n) = from (decide n) (bounded P decide n)
         last i h p (no other) = before i (omega arith) p
 
 -- The same where one is known to be had, since not none is.
-pub bounded-some : (P : ℕ → Type 0) → ((i : ℕ) → Dec (P i)) → (n : ℕ) → (((i : ℕ) → i < n → P i → ⊥) → ⊥) → (i : ℕ) × (i < n) × P i
+pub bounded-some : (P : ℕ → Type 0) → ((i : ℕ) → Dec (P i)) → (n : ℕ)
+    → (((i : ℕ) → i < n → P i → ⊥) → ⊥) → (i : ℕ) × (i < n) × P i
 bounded-some P decide n some = from (bounded P decide n)
   where
     from : ((i : ℕ) × (i < n) × P i) ⊎ ((i : ℕ) → i < n → P i → ⊥) → (i : ℕ) × (i < n) × P i

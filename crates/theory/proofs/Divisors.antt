@@ -1,26 +1,8 @@
 -- Divisors of whole numbers, and numbers with no common divisor above 1.
-use mathlib.Core.Path.{_≡_, refl, sym, ap, ap₂, subst, _∙_}
+use mathlib.Core.Path.{_≡_, sym, ap, ap₂, subst, _∙_}
 use mathlib.Core.Logic.{_⊎_, inl, inr}
 use Prim.Native.Nat.{ℕ, zero, suc, _+_, _-_, _*_, _/_, _%_, _^_, _≤_, _<_, suc-le-suc}
-use native.Mathlib.Nat.{
-  one-mul,
-  mul-one,
-  zero-mul,
-  mul-zero,
-  mul-comm,
-  mul-assoc,
-  add-mul,
-  mul-sub,
-  mul-le-mul-right,
-  mul-mod-left,
-  div-add-mod',
-  add-zero,
-  le-refl,
-  zero-lt-suc,
-  suc-sub-suc,
-  pow-zero,
-  pow-suc,
-}
+use native.Mathlib.Nat.{one-mul, mul-one, zero-mul, mul-zero, mul-comm, mul-assoc, mul-sub, mul-mod-left, div-add-mod', le-refl, zero-lt-suc, suc-sub-suc, pow-zero, pow-suc}
 use native.Mathlib.Decide.{decLe, ℕ-discrete}
 use native.Mathlib.Omega.{arith}
 use lib.Dec.{lit≤}
@@ -28,6 +10,7 @@ use Rattle.theory.specs.Numbers.{Divides, Prime, Coprime}
 
 -- ---- divisors
 
+-- every number divides itself and 0, and 1 divides every number
 pub divides-self : (n : ℕ) → Divides n n
 divides-self n = (1, sym (one-mul n))
 
@@ -37,6 +20,7 @@ divides-zero d = (0, sym (zero-mul d))
 pub one-divides : (n : ℕ) → Divides 1 n
 one-divides n = (n, sym (mul-one n))
 
+-- a divisor of a divisor is a divisor
 pub divides-trans : (a b c : ℕ) → Divides a b → Divides b c → Divides a c
 divides-trans a b c h g = (g .0 * h .0, g .1 ∙ ap (λ x. g .0 * x) (h .1) ∙ sym (mul-assoc (g .0) (h .0) a))
 
@@ -47,6 +31,7 @@ divides-multiple d n c h = (c * h .0, ap (λ x. c * x) (h .1) ∙ sym (mul-assoc
 pub divides-multiple-right : (d n c : ℕ) → Divides d n → Divides d (n * c)
 divides-multiple-right d n c h = subst (Divides d) (mul-comm c n) (divides-multiple d n c h)
 
+-- what divides two numbers divides their sum and their difference
 pub divides-sum : (d a b : ℕ) → Divides d a → Divides d b → Divides d (a + b)
 divides-sum d a b h g = (h .0 + g .0, omega (arith, h .1, g .1))
 
@@ -68,6 +53,7 @@ pub divisor-positive : (d n : ℕ) → 0 < n → Divides d n → 0 < d
 divisor-positive zero n positive h = omega (arith, h .1, mul-zero (h .0))
 divisor-positive (suc d) n positive h = omega arith
 
+-- only 1 divides 1
 pub divides-one : (d : ℕ) → Divides d 1 → d ≡ 1
 divides-one d h = omega (arith, divides-bound d 1 (lit≤ tt) h, divisor-positive d 1 (lit≤ tt) h)
 
@@ -78,6 +64,7 @@ divides-of-remainder d n e = (n / d, omega (arith, div-add-mod' n d))
 pub remainder-of-divides : (d n : ℕ) → Divides d n → n % d ≡ 0
 remainder-of-divides d n h = ap (λ x. x % d) (h .1) ∙ mul-mod-left (h .0) d
 
+-- whether d divides n can be decided
 pub divides-decide : (d n : ℕ) → Dec (Divides d n)
 divides-decide d n = from (ℕ-discrete (n % d) 0)
   where
@@ -135,6 +122,7 @@ common-in (suc fuel) (suc a) (suc b) h =
           inherits = λ P sub pa pb. c .inherits P sub (subst P (suc-sub-suc a b) (sub (suc a) (suc b) (omega arith) pa pb)) pb;
         }
 
+-- every two numbers have one
 pub common : (a b : ℕ) → Common a b
 common a b = common-in (a + b) a b (le-refl (a + b))
 
@@ -146,6 +134,7 @@ euclid P sub a b coprime pa pb =
 
 -- ---- numbers with no common divisor above 1
 
+-- coprime does not mind the order, and 1 is coprime to all
 pub coprime-sym : (a b : ℕ) → Coprime a b → Coprime b a
 coprime-sym a b coprime d h g = coprime d g h
 
@@ -164,9 +153,11 @@ coprime-divides a b c coprime h =
     keeps : Subtractive (λ x. Divides a (x * c))
     keeps x y order hx hy = subst (Divides a) (sym (sub-mul x y c)) (divides-difference a (x * c) (y * c) hx hy)
 
+-- what is coprime to both factors is coprime to the product
 pub coprime-product : (a b c : ℕ) → Coprime a b → Coprime a c → Coprime a (b * c)
 coprime-product a b c left right d h g = right d h (coprime-divides d b c (coprime-divisor d a b h left) g)
 
+-- powers of coprime numbers are coprime
 pub coprime-power-right : (a b k : ℕ) → Coprime a b → Coprime a (b ^ k)
 coprime-power-right a b zero coprime = subst (Coprime a) (sym (pow-zero b)) (coprime-one a)
 coprime-power-right a b (suc k) coprime =

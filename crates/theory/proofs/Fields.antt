@@ -1,19 +1,20 @@
 -- Lawful fields: products that are 0, cancelling, inverses, and which numbers have the same square.
-use mathlib.Core.Path.{_≡_, refl, sym, ap, ap₂, subst, _∙_}
+use mathlib.Core.Path.{_≡_, sym, ap, ap₂, _∙_}
 use mathlib.Core.Logic.{_⊎_, inl, inr}
-use Prim.Native.Nat.{ℕ, zero, suc, _+_, _-_, _*_, _%_, _≤_, _<_}
-use native.Mathlib.Nat.{mod-lt, mod-eq-of-lt}
+use Prim.Native.Nat.{ℕ, zero, suc, _%_, _<_}
+use native.Mathlib.Nat.{mod-eq-of-lt}
 use native.Mathlib.Decide.{ℕ-discrete}
 use native.Mathlib.Omega.{arith}
 use Rattle.theory.specs.Meaning.{Meaning, Laws, Lawful}
 use Rattle.theory.specs.Operation.{pow}
 use Rattle.theory.specs.Power.{power}
 use Rattle.theory.proofs.Algebra.{mul-zero, neg-zero, neg-neg, neg-only, mul-neg, neg-mul-neg, add-cancel}
-use Rattle.theory.proofs.Codes.{code, code-ring, code-injective, code-product, code-sum, code-negative, code-zero, product-remainder-right, code-rules}
-use Rattle.theory.proofs.PowerLaws.{one-below, size-positive, remainder-below, product-one-any, one-product, product-left-comm, power-below, power-suc, power-zero}
+use Rattle.theory.proofs.Codes.{code, code-ring, code-injective, code-sum, code-zero, product-remainder-right, code-rules}
+use Rattle.theory.proofs.PowerLaws.{size-positive, remainder-below, product-one-any, one-product, product-left-comm, power-below}
 
 -- ---- any ring
 module _ (m : Meaning) (laws : Laws m) where
+  -- 0 times a number, and 0 added to a code
   pub product-zero : (a : ℕ) → m .product a 0 ≡ 0
   product-zero a =
       code-injective m laws _ _ (laws .product-below a 0) (size-positive m laws)
@@ -25,6 +26,7 @@ module _ (m : Meaning) (laws : Laws m) where
   pub zero-sum : (a : ℕ) → a < m .size → m .sum 0 a ≡ a
   zero-sum a below = laws .sum-comm 0 a ∙ laws .sum-zero a below
 
+  -- negatives: of 0, of a negative, and in a product
   pub negative-zero : m .negative 0 ≡ 0
   negative-zero =
       code-injective m laws _ _ (laws .negative-below 0) (size-positive m laws) (simp code-rules (neg-zero (code-ring m laws)))
@@ -41,10 +43,12 @@ module _ (m : Meaning) (laws : Laws m) where
       (simp code-rules
       (neg-only (code-ring m laws) (code m laws a) (code m laws b) (sym (code-sum m laws a b) ∙ ap (code m laws) e ∙ code-zero m laws)))
 
+  -- codes with the same negative are equal
   pub negative-injective : (a b : ℕ) → a < m .size → b < m .size → m .negative a ≡ m .negative b → a ≡ b
   negative-injective a b low high e =
       sym (negative-negative a low) ∙ ap (m .negative) e ∙ negative-negative b high
 
+  -- a negative factor makes the product negative, and two do not
   pub product-negative : (a b : ℕ) → m .product a (m .negative b) ≡ m .negative (m .product a b)
   product-negative a b =
       code-injective m laws _ _ (laws .product-below a (m .negative b)) (laws .negative-below (m .product a b))
@@ -59,12 +63,14 @@ module _ (m : Meaning) (laws : Laws m) where
       code-injective m laws _ _ (laws .product-below (m .negative a) (m .negative b)) (laws .product-below a b)
       (simp code-rules (neg-mul-neg (code-ring m laws) (code m laws a) (code m laws b)))
 
+  -- the negative of a code above 0 is above 0
   pub negative-positive : (a : ℕ) → 0 < a → a < m .size → 0 < m .negative a
   negative-positive a low high =
       let other : m .negative a ≡ 0 → ⊥ =
       λ e. absurd (omega (arith, sym (negative-negative a high) ∙ ap (m .negative) e ∙ negative-zero)) in
       omega arith
 
+  -- a + b = a + c gives b = c, for codes
   pub sum-cancel : (a b c : ℕ) → b < m .size → c < m .size → m .sum a b ≡ m .sum a c → b ≡ c
   sum-cancel a b c low high e =
       code-injective m laws _ _ low high
@@ -111,6 +117,7 @@ module _ (m : Meaning) (laws : Laws m) (lawful : Lawful m) where
   product-cancel a b c low high below-b below-c e =
       sym (mod-eq-of-lt below-b) ∙ product-cancel-any a b c (positive-apart a low high) e ∙ mod-eq-of-lt below-c
 
+  -- products and powers of codes above 0 are above 0
   pub product-positive : (a b : ℕ) → 0 < a → a < m .size → 0 < b → b < m .size → 0 < m .product a b
   product-positive a b low-a high-a low-b high-b =
       let other : m .product a b ≡ 0 → ⊥ = λ e. from (zero-divisors a b e) in

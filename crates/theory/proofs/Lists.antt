@@ -2,7 +2,7 @@
 use mathlib.Core.Path.{_≡_, refl, sym, ap, subst, _∙_}
 use mathlib.Core.Logic.{_⊎_, inl, inr}
 use mathlib.Core.List.{List, [], _∷_}
-use Prim.Native.Nat.{ℕ, zero, suc, _≤_, _<_}
+use Prim.Native.Nat.{ℕ, zero, suc, _<_}
 use native.Mathlib.Decide.{ℕ-discrete}
 use native.Mathlib.Omega.{arith}
 use lib.ListN.{length}
@@ -33,6 +33,7 @@ module _ {A : Type 0} where
   has-all P [] each = tt
   has-all P (y ∷ ys) each = (each y (inl refl), has-all P ys (λ x h. each x (inr h)))
 
+  -- what follows for each element holds of each element
   pub all-map : (P Q : A → Type 0) (xs : List A) → ((x : A) → P x → Q x) → All P xs → All Q xs
   all-map P Q xs step all = has-all Q xs (λ x h. step x (all-has P xs all x h))
 
@@ -46,6 +47,7 @@ module _ {A : Type 0} where
   without x (y ∷ ys) (inr h) = y ∷ without x ys h
   without x [] h = absurd h
 
+  -- one element fewer is left
   pub length-without : (x : A) (xs : List A) (h : Has x xs) → suc (length (without x xs h)) ≡ length xs
   unfolding without
   length-without x (y ∷ ys) (inl e) = refl
@@ -92,6 +94,7 @@ module _ {A : Type 0} where
   images f zero = []
   images f (suc n) = f n ∷ images f n
 
+  -- its length, what stands in it, and what holds of all of it
   pub length-images : (f : ℕ → A) (n : ℕ) → length (images f n) ≡ n
   unfolding images
   length-images f zero = refl

@@ -1,9 +1,9 @@
--- Lawful fields of odd size: 1 + 1 is not 0, and no number but 0 is its own negative.
-use mathlib.Core.Path.{_≡_, refl, sym, ap, ap₂, _∙_}
+-- Rings of odd size: 1 + 1 is not 0; and if the ring is a lawful field, no number but 0 is its own negative.
+use mathlib.Core.Path.{_≡_, sym, ap, ap₂, _∙_}
 use mathlib.Core.Logic.{_⊎_, inl, inr}
 use mathlib.Core.Bool.{true}
 use mathlib.Core.List.{List}
-use Prim.Native.Nat.{ℕ, suc, _+_, _%_, _≤_, _<_}
+use Prim.Native.Nat.{ℕ, _%_, _<_}
 use native.Mathlib.Nat.{mod-eq-of-lt}
 use native.Mathlib.Omega.{arith}
 use Rattle.theory.specs.Meaning.{Meaning, Laws, Lawful}
@@ -11,7 +11,7 @@ use Rattle.theory.specs.Operation.{Operation}
 use Rattle.theory.proofs.Fields.{product-zero, sum-cancel, zero-divisors}
 use Rattle.theory.proofs.Lists.{Has, Distinct, images, length-images, has-images, images-has, distinct-images}
 use Rattle.theory.proofs.Pairing.{Partners, Paired, paired}
-use Rattle.theory.proofs.PowerLaws.{one-below, size-positive}
+use Rattle.theory.proofs.PowerLaws.{one-below}
 
 addition : Meaning → Operation ℕ
 addition m = record { neutral = 0; join = m .sum; spent = λ a. true; element = λ a. a }
@@ -20,7 +20,7 @@ addition m = record { neutral = 0; join = m .sum; spent = λ a. true; element = 
 double : (m : Meaning) → Laws m → (x : ℕ) → x < m .size → m .sum x x ≡ m .product x (m .sum 1 1)
 double m laws x below = sym (laws .product-sum x 1 1 ∙ ap₂ (m .sum) (laws .product-one x below) (laws .product-one x below))
 
--- Were 1 + 1 = 0, each x had the partner 1 − x, and the size were even.
+-- In a ring of odd size 1 + 1 is not 0: were it 0, each x had the partner 1 − x, and the size were even.
 pub two-not-zero : (m : Meaning) → Laws m → m .size % 2 ≡ 1 → m .sum 1 1 ≡ 0 → ⊥
 unfolding addition
 two-not-zero m laws odd zero-two = even (paired (addition m) (laws .sum-comm) (laws .sum-assoc) 1 codes distinct partners)
@@ -57,6 +57,7 @@ two-not-zero m laws odd zero-two = even (paired (addition m) (laws .sum-comm) (l
     even : Paired (addition m) 1 codes → ⊥
     even (k, count, all) = omega (arith, sym (length-images (λ (i : ℕ). i) (m .size)) ∙ count, odd)
 
+-- a code above 0 is not its own negative
 pub negative-differs : (m : Meaning) → Laws m → Lawful m → m .size % 2 ≡ 1 → (x : ℕ) → 0 < x → x < m .size → m .negative x ≡ x → ⊥
 negative-differs m laws lawful odd x low high e =
     from (zero-divisors m laws lawful x (m .sum 1 1) (sym (double m laws x high) ∙ ap (m .sum x) (sym e) ∙ laws .sum-negative x))

@@ -1,10 +1,10 @@
 -- The pairing lemma: in a list without repeats where each element has a partner, another element with which it joins to c,
 -- the elements number 2k, and all of them join to the power k of c.
 use mathlib.Core.Path.{_≡_, refl, sym, ap, subst, _∙_}
-use mathlib.Core.Logic.{_⊎_, inl, inr}
+use mathlib.Core.Logic.{inl, inr}
 use mathlib.Core.List.{List, [], _∷_}
-use Prim.Native.Nat.{ℕ, zero, suc, _+_, _≤_, _<_}
-use native.Mathlib.Nat.{le-refl, le-of-suc-le-suc}
+use Prim.Native.Nat.{ℕ, zero, suc, _+_, _≤_}
+use native.Mathlib.Nat.{le-refl}
 use native.Mathlib.Omega.{arith}
 use lib.ListN.{length}
 use Rattle.theory.specs.Operation.{Operation, pow}
@@ -21,6 +21,7 @@ pub record Partners {E : Type 0} (o : Operation E) (c : E) (xs : List E) : Type 
   pub partner : (x : E) → Has x xs → (y : E) × Has y xs × (o .join x y ≡ c) × (x ≡ y → ⊥)
   pub unique : (x y z : E) → Has x xs → Has y xs → Has z xs → o .join x y ≡ c → o .join x z ≡ c → y ≡ z
 
+-- The elements number k + k, and all of them join to the power k of c.
 abbrev pub Paired : {E : Type 0} → Operation E → E → List E → Type 0
 Paired o c xs = (k : ℕ) × (length xs ≡ k + k) × (joined o xs ≡ pow o c k)
 
@@ -110,5 +111,6 @@ module _ {E : Type 0} (o : Operation E) (comm : (a b : E) → o .join a b ≡ o 
       few : length (rest c x ys distinct pairs) ≤ fuel
       few = omega (arith, length-without _ ys (mate-behind c x ys distinct pairs), h)
 
+  -- the pairing lemma
   pub paired : (c : E) (xs : List E) → Distinct xs → Partners o c xs → Paired o c xs
   paired c xs distinct pairs = paired-in (length xs) c xs (le-refl (length xs)) distinct pairs
