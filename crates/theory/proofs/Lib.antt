@@ -2,7 +2,9 @@ pub mod Algebra
 pub mod Bits
 pub mod Bounded
 pub mod Codes
+pub mod Congruence
 pub mod Divisors
+pub mod Euclid
 pub mod Euler
 pub mod Fields
 pub mod Images
@@ -11,9 +13,16 @@ pub mod JoiningLaws
 pub mod Lists
 pub mod Odd
 pub mod Orders
+pub mod PairFields
+pub mod PairInverses
+pub mod PairLaws
+pub mod PairParts
 pub mod Pairing
 pub mod PowerLaws
 pub mod Powers
+pub mod Primality
+pub mod ResidueFields
+pub mod ResidueLaws
 pub mod RingRatios
 pub mod RootCount
 pub mod Search

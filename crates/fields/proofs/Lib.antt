@@ -1,0 +1,3 @@
+mod Conjugates
+mod EachLawful
+mod Reduced

@@ -1,0 +1,8 @@
+use Rattle.fields.proofs.Reduced.{negative-above, negative-zero}
+use Rattle.fields.proofs.modular.negate.Needs as need
+
+pub returns-then-r-eq0 : need.returns-then-r-eq0
+returns-then-r-eq0 c = negative-zero _ _ _ (c .reduce-r .ensures) (c .if-r-eq0 .taken)
+
+pub returns-else-r-eq0 : need.returns-else-r-eq0
+returns-else-r-eq0 c = negative-above _ _ _ (c .reduce-r .ensures) (c .pre .0) (c .if-r-eq0 .left)

@@ -1,0 +1,6 @@
+use mathlib.Core.Path.{sym}
+use native.Mathlib.Nat.{mod-eq-of-lt}
+use Rattle.fields.proofs.modular.reduce.Needs as need
+
+pub returns-then-a-q : need.returns-then-a-q
+returns-then-a-q c = sym (mod-eq-of-lt (c .if-a-q .taken))

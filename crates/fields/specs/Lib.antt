@@ -1,0 +1,4 @@
+pub mod Inverse
+pub mod Lawfulness
+pub mod Pairs
+pub mod Residues
