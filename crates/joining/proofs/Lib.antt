@@ -1,3 +1,4 @@
 pub mod Climbing
+pub mod Counts
 pub mod Digits
 pub mod RatioValue

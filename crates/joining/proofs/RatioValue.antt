@@ -1,7 +1,6 @@
 -- The value of a ratio, from what a field answers for the inverse of its bottom.
 use mathlib.Core.Path.{_≡_, sym, ap, _∙_}
 use Prim.Native.Nat.{ℕ}
-use Rattle.std.specs.declared.option.Option.the-variants.{Some, None}
 use Rattle.std.specs.declared.result.Result.the-variants.{Ok, Err}
 use Rattle.theory.specs.Meaning.{Meaning, Laws, inverse}
 use Rattle.ring.specs.declared.RingFault.{RingFault}

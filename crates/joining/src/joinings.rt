@@ -1,11 +1,20 @@
 // The two joinings that a ring gives. They borrow the ring.
 ghost use denote.Ref.{now};
 ghost use mathlib.Core.Path.{_≡_};
+ghost use Prim.Native.Nat.{_%_};
 ghost use Rattle.theory.proofs.JoiningLaws.{multiplication-laws, ratios-laws};
 ghost use Rattle.theory.specs.Operation.{multiplication, ratios};
 use super::Joining;
 use ring::Ring;
 use theory::Ratio;
+
+// The remainder of a code by the size. A code that is below the size costs no division.
+fn remainder<R: Ring>(ring: &R, code: u64) -> u64
+    ensures { λ r. ⌜ r ≡ code % R·Ring .meaning (now (ring .entry)) .size ⌝ }
+{
+    let size = ring.size();
+    if code < size { code } else { code % size }
+}
 
 // The numbers of a ring under multiplication: a code is its own element, and 1 is spent.
 pub struct Multiplication<'a, R: Ring> {
@@ -38,12 +47,11 @@ pub impl<'a, R: Ring> Joining for Multiplication<'a, R> as MultiplicationJoining
     }
 
     fn reduced(&self, a: u64) -> u64 {
-        let size = self.ring.size();
-        a % size
+        remainder(self.ring, a)
     }
 
     fn is_spent(&self, a: u64) -> bool {
-        a % self.ring.size() == 1
+        remainder(self.ring, a) == 1
     }
 
     fn element(&self, code: u64) -> u64 {
@@ -91,15 +99,14 @@ pub impl<'a, R: Ring> Joining for Ratios<'a, R> as RatiosJoining {
     }
 
     fn reduced(&self, a: Ratio) -> Ratio {
-        let size = self.ring.size();
         Ratio {
-            top: a.top % size,
-            bottom: a.bottom % size,
+            top: remainder(self.ring, a.top),
+            bottom: remainder(self.ring, a.bottom),
         }
     }
 
     fn is_spent(&self, a: Ratio) -> bool {
-        a.bottom % self.ring.size() == 0
+        remainder(self.ring, a.bottom) == 0
     }
 
     fn element(&self, code: u64) -> Ratio {

@@ -1,5 +1,5 @@
 -- Powers and ladders in any joining.
-use mathlib.Core.Path.{_≡_, refl, sym, ap, ap₂, _∙_}
+use mathlib.Core.Path.{_≡_, refl, sym, ap, _∙_}
 use Prim.Native.Nat.{ℕ, zero, suc, _+_, _*_, _^_}
 use native.Mathlib.Nat.{add-zero, add-suc, mul-zero, mul-suc, mul-comm, pow-zero, pow-suc}
 use Rattle.theory.specs.Operation.{Operation, OperationLaws, pow, rung}
