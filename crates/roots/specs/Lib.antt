@@ -1,0 +1,10 @@
+pub mod Checks
+pub mod Drafts
+pub mod Held
+pub mod Laws
+pub mod Promises
+pub mod Rooting
+pub mod Runs
+pub mod Small
+pub mod State
+pub mod Worked
