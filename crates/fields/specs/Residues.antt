@@ -1,12 +1,12 @@
 -- The residues as a value of the program, and what they mean.
 use mathlib.Core.Path.{_≡_}
-use Prim.Native.Nat.{ℕ, _<_, _≤_}
+use Prim.Native.Nat.{ℕ, _≤_}
 use Rattle.std.specs.declared.result.Result.{Result}
 use Rattle.std.specs.declared.result.Result.the-variants.{Ok, Err}
 use Rattle.refusals.specs.declared.Refusal.{Refusal}
 use Rattle.refusals.specs.declared.Refusal.the-variants.{Modulus}
 use Rattle.fields.specs.declared.residues.Residues.{Residues}
-use Rattle.theory.specs.Meaning.{Meaning, Laws}
+use Rattle.theory.specs.Meaning.{Meaning}
 use Rattle.theory.specs.Residues.{residues}
 
 abbrev pub of-residues : Residues → Meaning

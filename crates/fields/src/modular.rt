@@ -35,7 +35,7 @@ pub(crate) fn multiply(a: u64, b: u64, q: u64) -> u64
 }
 
 // The b below q whose product with a is 1 modulo q, if there is one, by Euclid's steps:
-// of the two remainders r and s, r is t × a and s is u × a modulo q, at each step.
+// at each of them the remainder r is t × a, and the next one, s, is u × a, modulo q.
 pub(crate) fn invert(a: u64, q: u64) -> Option<u64>
     requires { ⌜ 2 ≤ q ⌝ ∗ ⌜ q ≤ 2147483647 ⌝ }
     ensures { λ r. ⌜ Inverse q a r ⌝ }

@@ -4,7 +4,7 @@ ghost use mathlib.Core.Path.{_≡_};
 
 pub mod ring;
 
-// The ring of pairs modulo p, for any p from 3 to 2,147,483,647 that leaves 3 on division by 4; a field where p is a prime.
+// The ring of pairs modulo p, for any p from 3 to 2,147,483,647 that leaves 3 on division by 4; lawful where p is a prime.
 #[derive(Clone, Copy, PartialEq, Eq, Debug)]
 pub struct Pairs {
     p: u64,

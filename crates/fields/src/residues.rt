@@ -3,7 +3,7 @@ ghost use Prim.Native.Nat.{_≤_};
 
 pub mod ring;
 
-// The ring of residues modulo q, for any q from 2 to 2,147,483,647; a field exactly when q is a prime.
+// The ring of residues modulo q, for any q from 2 to 2,147,483,647; lawful exactly when q is a prime.
 #[derive(Clone, Copy, PartialEq, Eq, Debug)]
 pub struct Residues {
     q: u64,

@@ -1,6 +1,8 @@
 // Why a call declines. Every refusal of every call is a case of one enum, and each case has a number.
 ghost use mathlib.Core.Path.{_≡_};
+ghost use Rattle.refusals.specs.Fault.{refused-by};
 ghost use Rattle.refusals.specs.Number.{numbered};
+use joining::JoiningFault;
 
 // Where a field showed that it is not lawful: in an inverse that is missing, a ladder without rank, or elsewhere in the search for a root.
 #[derive(Clone, Copy, PartialEq, Eq, Debug)]
@@ -61,6 +63,29 @@ impl Refusal {
             Refusal::Zero => 12,
             Refusal::NoSquare => 13,
             Refusal::Unlawful { .. } => 14,
+        }
+    }
+}
+
+// An inverse is taken in step 6; a ladder by 2 belongs to step 3, any other to step 4.
+pub impl From<JoiningFault> for Refusal as RefusalOfJoining {
+    ghost converts = { λ fault r. r ≡ refused-by fault };
+
+    fn from(fault: JoiningFault) -> Refusal {
+        match fault {
+            JoiningFault::NoInverse(code) => Refusal::Unlawful {
+                layer: Layer::Ring,
+                step: 6,
+                code,
+            },
+            JoiningFault::NoRank { by, code } => {
+                let step = if by == 2 { 3 } else { 4 };
+                Refusal::Unlawful {
+                    layer: Layer::Joining,
+                    step,
+                    code,
+                }
+            }
         }
     }
 }

@@ -15,7 +15,7 @@ use Rattle.roots.specs.Laws.{Kept, All-apart, held-power, fourth-of}
 use Rattle.roots.specs.Runs.{run}
 use Rattle.roots.specs.State.{State, served, twos, odd}
 use Rattle.roots.proofs.Divisions.{Parted, size-parted, odd-some, twos-served}
-use Rattle.roots.proofs.HeldFactors.{Holds, held-holds}
+use Rattle.roots.proofs.Held.{Holds, held-holds}
 use Rattle.roots.proofs.Runs.{runs-keep}
 use Rattle.roots.proofs.Sizes.{eightfold}
 

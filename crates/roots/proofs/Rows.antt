@@ -9,7 +9,7 @@ use lib.ListN.{length, getD, set, take, drop}
 use Rattle.std.proofs.shelf.Lists.{take-more-set, length-take-le, at-drop-more, at-drop-all}
 use Rattle.std.proofs.shelf.Tests.{and-parts, and-from, leb-true, eq-eqb, ne-eqb}
 use Rattle.roots.specs.declared.factor.Factor.{Factor}
-use Rattle.roots.specs.declared.held.Held.{Held}
+use Rattle.roots.specs.declared.holdings.Held.{Held}
 use Rattle.roots.specs.Checks.{base, gcd, apart}
 use Rattle.roots.specs.Small.{all-small}
 
@@ -74,3 +74,7 @@ module _ (r : ℕ) (xs : List Factor) where
   pub apart-end : (i : ℕ) → length xs ≤ i → Apart-on i → true ≡ apart r xs
   unfolding apart
   apart-end i h on = sym (on ∙ at-drop-all (apart r) xs i h)
+
+-- what a place of the row reads past its end
+abbrev pub no-factor : Factor
+no-factor = record { r = 0; f = 0; zeta = 0 }

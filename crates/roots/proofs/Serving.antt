@@ -19,7 +19,7 @@ use Rattle.theory.proofs.Lists.{All}
 use Rattle.roots.specs.declared.factor.Factor.{Factor}
 use Rattle.roots.specs.Rooting.{Steps, turned, matches, searched}
 use Rattle.roots.proofs.Climbs.{One-before, climb-one, stage-0}
-use Rattle.roots.proofs.HeldFactors.{Holds}
+use Rattle.roots.proofs.Held.{Holds}
 use Rattle.roots.proofs.Searching.{factor-climb, searched-over, searched-matched}
 use Rattle.roots.proofs.StepFive.{fifth}
 use Rattle.roots.proofs.StepFour.{Idle}

@@ -13,7 +13,7 @@ use Rattle.theory.proofs.Lists.{All}
 use Rattle.theory.proofs.Orders.{coprime-exponents}
 use Rattle.roots.specs.declared.factor.Factor.{Factor}
 use Rattle.roots.specs.Laws.{Apart-from, All-apart, held-power}
-use Rattle.roots.proofs.HeldFactors.{Holds}
+use Rattle.roots.proofs.Held.{Holds}
 
 -- The factor does not serve: the power of h by the size less one without r ^ f is 1.
 abbrev pub Idle : Meaning → ℕ → Factor → Type 0

@@ -1,10 +1,12 @@
 pub mod Checks
+pub mod Clauses
 pub mod Drafts
 pub mod Held
+pub mod House
 pub mod Laws
-pub mod Promises
 pub mod Rooting
 pub mod Runs
 pub mod Small
 pub mod State
+pub mod Steps
 pub mod Worked

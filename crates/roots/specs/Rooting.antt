@@ -17,8 +17,8 @@ use Rattle.joining.specs.Ladder.{climbed, climb-joinings}
 use Rattle.joining.specs.Quotient.{quotient-of}
 use Rattle.joining.specs.declared.Back.the-variants.{One, Two}
 use Rattle.joining.specs.declared.JoiningFault.{JoiningFault}
-use Rattle.joining.specs.declared.JoiningFault.the-variants.{NoInverse, NoRank}
-use Rattle.refusals.specs.declared.Layer.the-variants.{Ring, Joining, Search}
+pub use Rattle.refusals.specs.Fault.{refused-by}
+use Rattle.refusals.specs.declared.Layer.the-variants.{Search}
 use Rattle.refusals.specs.declared.Refusal.{Refusal}
 use Rattle.refusals.specs.declared.Refusal.the-variants.{Size, NoFourth, Rest, Mark, Zero, NoSquare, Unlawful}
 use Rattle.roots.specs.declared.factor.Factor.{Factor}
@@ -35,11 +35,6 @@ ended r n = record { outcome = r; made = n }
 abbrev pub fails-if : {A : Type 0} → Bool → Refusal → ℕ → Steps A → Steps A
 fails-if true why n otherwise = ended (Err why) n
 fails-if false why n otherwise = otherwise
-
--- A fault of the layers below, as a refusal: an inverse is taken in step 6; a ladder by 2 belongs to step 3, any other to step 4.
-abbrev pub refused-by : JoiningFault → Refusal
-refused-by (NoInverse a) = Unlawful Ring 6 a
-refused-by (NoRank by code) = Unlawful Joining (cond (eqb by 2) 3 4) code
 
 -- The two roots, smaller code first.
 abbrev pub ordered : ℕ → ℕ → ℕ × ℕ

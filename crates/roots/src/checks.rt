@@ -11,7 +11,7 @@ ghost use Rattle.roots.specs.State.{served};
 use crate::divide::divided_out;
 use crate::divide::gcd;
 use crate::factor::Factor;
-use crate::held::Held;
+use crate::holdings::Held;
 use refusals::Refusal;
 use ring::Ring;
 
@@ -43,11 +43,10 @@ pub(crate) fn is_apart(r: u64, factors: &[Factor]) -> bool
 
 // z has order exactly r: after at most r products the power 1 comes, and it comes no earlier.
 pub(crate) fn has_order<R: Ring>(ring: &R, z: u64, r: u64) -> bool
-    requires { ⌜ r ≤ 4095 ⌝ }
     ensures { λ b. ⌜ b ≡ order-is (R·Ring .meaning (now (ring .entry))) z r ⌝ }
 {
     let mut power = 1;
-    for k in 1..r + 1 {
+    for k in 1..=r {
         power = ring.product(power, z);
         if power == 1 {
             return k == r;

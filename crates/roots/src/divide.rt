@@ -1,6 +1,6 @@
 // Dividing one number out of another, and common divisors.
 ghost use mathlib.Core.Path.{_≡_};
-ghost use Prim.Native.Nat.{_<_, _≤_};
+ghost use Prim.Native.Nat.{_/_, _^_, _<_, _≤_};
 ghost use Rattle.roots.specs.Checks.{divided-out as taken-out, gcd as common};
 ghost use Rattle.roots.specs.State.{multiplicity, cofactor};
 
@@ -22,7 +22,7 @@ pub(crate) fn divided_out(r: u64, f: u16, n: u64) -> Option<u64>
     Some(left)
 }
 
-// What is left of n once r is divided out as often as it goes in, and how often that is; no number has more than 63 such divisions.
+// What is left of n once r is divided out as often as it goes in, and how often that is. For n above 0 and r above 1 it is below 64.
 pub(crate) fn parted(r: u64, n: u64) -> (u64, u16)
     requires { ⌜ 0 < r ⌝ }
     ensures left { λ p. ⌜ p .0 ≡ cofactor r n ⌝ }
@@ -51,4 +51,16 @@ pub(crate) fn gcd(a: u64, b: u64) -> u64
         small = left;
     }
     big
+}
+
+// n / r^f, by f divisions in a row.
+pub(crate) fn by_power(n: u64, r: u64, f: u16) -> u64
+    requires { ⌜ 0 < r ⌝ }
+    ensures { λ left. ⌜ left ≡ n / r ^ f ⌝ }
+{
+    let mut left = n;
+    for _i in 0..f {
+        left /= r;
+    }
+    left
 }

@@ -13,7 +13,7 @@ use crate::checks::is_fourth;
 use crate::checks::is_served;
 use crate::divide::parted;
 use crate::factor::Factor;
-use crate::held::Held;
+use crate::holdings::Held;
 use crate::plan::Plan;
 use refusals::Refusal;
 use ring::Field;

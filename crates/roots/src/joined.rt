@@ -26,13 +26,15 @@ pub(crate) fn number_power<R: Ring>(ring: &R, x: u64, k: u64) -> (u64, u64)
     power(&Multiplication::new(ring), x, k)
 }
 
-// The power k of [g].
-pub(crate) fn ratio_power<R: Ring>(ring: &R, mark: u64, g: u64, k: u64) -> (Ratio, u64)
-    ensures value { λ p. ⌜ p .0 ≡ pow (ratios (R·Ring .meaning (now (ring .entry))) mark) (ratio g 1) k ⌝ }
+// Whether the power k of [g] is spent, and the joinings made.
+pub(crate) fn is_spent_at<R: Ring>(ring: &R, mark: u64, g: u64, k: u64) -> (bool, u64)
+    ensures value { λ p. ⌜ p .0 ≡ ratios (R·Ring .meaning (now (ring .entry))) mark .spent (pow (ratios (R·Ring .meaning (now (ring .entry))) mark) (ratio g 1) k) ⌝ }
     ensures count { λ p. ⌜ p .1 ≡ joinings k ⌝ }
     ensures few { λ p. ⌜ p .1 ≤ 126 ⌝ }
 {
-    power(&Ratios::new(ring, mark), Ratio { top: g, bottom: 1 }, k)
+    let joining = Ratios::new(ring, mark);
+    let (raised, made) = power(&joining, joining.element(g), k);
+    (joining.is_spent(raised), made)
 }
 
 // The ladder from a power of the number g.

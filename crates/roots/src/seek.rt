@@ -16,7 +16,6 @@ use ring::Ring;
 
 // The number of order exactly r before the rank of the ladder from g^u by r, if there is one.
 fn order_from<R: Ring>(ring: &R, r: u64, u: u64, times: u16, g: u64) -> Option<u64>
-    requires { ⌜ r ≤ 4095 ⌝ }
     ensures { λ z. ⌜ z ≡ passing (λ z. order-is (R·Ring .meaning (now (ring .entry))) z r) (climbed (multiplication (R·Ring .meaning (now (ring .entry)))) g u r times One) ⌝ }
 {
     let Ok((Some(z), _)) = number_climb(ring, g, u, r, times, Back::One) else {
@@ -37,7 +36,7 @@ fn fourth_from<R: Ring>(ring: &R, odd: u64, twos: u16, g: u64) -> Option<u64>
 
 // A number of order exactly r: the first to which a code below the size from 1 to 4,095 leads.
 pub(crate) fn seek_order<R: Ring>(ring: &R, r: u64) -> Option<u64>
-    requires { ⌜ 0 < r ⌝ ∗ ⌜ r ≤ 4095 ⌝ }
+    requires { ⌜ 0 < r ⌝ }
     ensures { λ z. ⌜ z ≡ first-some (leads (R·Ring .meaning (now (ring .entry))) r) 1 (tries (R·Ring .meaning (now (ring .entry)))) ⌝ }
 {
     let size = ring.size();

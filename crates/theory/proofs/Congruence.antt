@@ -1,7 +1,7 @@
 -- Numbers that leave the same on division by q.
-use mathlib.Core.Path.{_≡_, refl, sym, ap, ap₂, _∙_}
-use Prim.Native.Nat.{ℕ, _+_, _-_, _*_, _/_, _%_, _≤_, _<_}
-use native.Mathlib.Nat.{add-mod, add-mul-mod-self-right, mod-add-div', mod-lt, mod-mod, mul-comm, mul-mod-left}
+use mathlib.Core.Path.{_≡_, sym, ap, ap₂, _∙_}
+use Prim.Native.Nat.{ℕ, _+_, _-_, _*_, _/_, _%_, _<_}
+use native.Mathlib.Nat.{add-mod, add-mul-mod-self-right, mod-add-div', mod-lt, mod-mod, mul-comm}
 use native.Mathlib.Omega.{arith}
 
 -- a and b leave the same on division by q

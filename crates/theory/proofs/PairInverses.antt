@@ -1,7 +1,7 @@
 -- Inverses of pairs modulo p, through the norm x × x + y × y of x + y·i: it is multiplicative.
 use mathlib.Core.Path.{_≡_, sym, ap, ap₂, _∙_}
 use mathlib.Core.List.{[], _∷_}
-use Prim.Native.Nat.{ℕ, _+_, _-_, _*_, _/_, _%_, _≤_, _<_}
+use Prim.Native.Nat.{ℕ, _+_, _-_, _*_, _/_, _%_, _≤_}
 use native.Mathlib.Nat.{mod-eq-of-lt, mod-lt, mod-self}
 use native.Mathlib.Omega.{arith}
 use Rattle.theory.specs.Pairs.{imaginary, pair, pairs, real}

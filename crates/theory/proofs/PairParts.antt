@@ -1,7 +1,7 @@
 -- The parts x and y of a number x + y·i of the pairs modulo p, as numbers of the residues modulo p.
-use mathlib.Core.Path.{_≡_, refl, sym, ap, ap₂, _∙_}
-use Prim.Native.Nat.{ℕ, _+_, _-_, _*_, _/_, _%_, _^_, _≤_, _<_}
-use native.Mathlib.Nat.{add-mod, add-mul-div-left, add-mul-mod-self-left, add-sub-of-le, div-add-mod', div-eq-of-lt, div-lt-iff-lt-mul, mod-eq-of-lt, mod-lt, mod-mod, mod-self, mul-le-mul, mul-mod-left, zero-add, zero-div}
+use mathlib.Core.Path.{_≡_, sym, ap, ap₂, _∙_}
+use Prim.Native.Nat.{ℕ, _+_, _-_, _*_, _/_, _%_, _≤_, _<_}
+use native.Mathlib.Nat.{add-mul-div-left, add-mul-mod-self-left, add-sub-of-le, div-add-mod', div-eq-of-lt, div-lt-iff-lt-mul, mod-eq-of-lt, mod-lt, mod-mod, mod-self, mul-le-mul, mul-mod-left, zero-add, zero-div}
 use native.Mathlib.Omega.{arith}
 use lib.Arith.{digits-div, digits-mod, mod-mul}
 use Rattle.theory.specs.Pairs.{imaginary, pair, pairs, real}

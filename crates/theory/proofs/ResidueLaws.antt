@@ -1,11 +1,11 @@
 -- The residues modulo q are a ring.
 use mathlib.Core.Path.{_≡_, refl, sym, ap, _∙_}
-use Prim.Native.Nat.{ℕ, _+_, _-_, _*_, _/_, _%_, _^_, _≤_, _<_}
+use Prim.Native.Nat.{ℕ, _+_, _-_, _*_, _%_, _^_, _≤_, _<_}
 use native.Mathlib.Nat.{add-assoc, add-comm, add-mod-mod, add-zero, mod-add-mod, mod-eq-of-lt, mod-lt, mod-mod, mul-add, mul-assoc, mul-comm, mul-one, zero-mod, add-mod}
 use native.Mathlib.Omega.{arith}
 use Rattle.theory.specs.Meaning.{Laws}
 use Rattle.theory.specs.Residues.{residues}
-use Rattle.theory.proofs.Congruence.{same-add, same-mod, same-mul, same-negative}
+use Rattle.theory.proofs.Congruence.{same-mod, same-mul, same-negative}
 
 module _ (q : ℕ) where
   pub product-left : (a b : ℕ) → a % q * b % q ≡ a * b % q
@@ -40,6 +40,6 @@ residues-laws q low high =
           λ a b c. product-right q a (b + c) ∙ ap (λ n. n % q) (mul-add a b c) ∙ add-mod (a * b) (a * c) q;
     }
 
--- The same for a modulus of 31 bits, and for nothing larger the code offers.
+-- The same for the moduli that the code offers.
 pub residues-laws-31 : (q : ℕ) → 2 ≤ q → q ≤ 2147483647 → Laws (residues q)
 residues-laws-31 q low high = residues-laws q low (omega arith)

@@ -1,5 +1,4 @@
 // What pairs modulo p answer as a ring and as a field.
-ghost use Prim.Native.Nat.{_<_, _≤_, _*_};
 ghost use mathlib.Core.Path.{_≡_};
 ghost use Rattle.fields.specs.Pairs.{PairsMade, of-pairs};
 ghost use Rattle.theory.specs.Pairs.{real, imaginary, pair};

@@ -1,5 +1,4 @@
 // What residues modulo q answer as a ring and as a field.
-ghost use Prim.Native.Nat.{_<_, _≤_};
 ghost use mathlib.Core.Path.{_≡_};
 ghost use Rattle.fields.specs.Residues.{ResiduesMade, of-residues};
 ghost use Rattle.theory.specs.Meaning.{Lawful};
@@ -25,7 +24,7 @@ impl Residues {
     }
 }
 
-// The residues modulo the prime 2,013,265,921, the field of the day's work.
+// The day's field: the residues modulo the prime 2,013,265,921.
 pub fn day_field() -> Residues
     ensures { λ r. ⌜ of-residues r ≡ residues 2013265921 ⌝ ∗ ⌜ Lawful (of-residues r) ⌝ }
 {

@@ -27,7 +27,7 @@ impl<F: Field> Draft<F> {
     pub fn replay(field: F, calls: &[Call]) -> Draft<F>
         ensures value { λ d. ⌜ held-state (d .held) ≡ run (F·Ring .meaning field) (now (calls .entry)) ⌝ }
         ensures field { λ d. ⌜ d .field ≡ field ⌝ }
-        ensures keeps { λ d. ⌜ Kept (F·Ring .meaning field) (now (calls .entry)) (held-state (d .held)) ⌝ }
+        ensures kept { λ d. ⌜ Kept (F·Ring .meaning field) (now (calls .entry)) (held-state (d .held)) ⌝ }
     {
         let mut draft = Draft::start(field);
         for call in calls {

@@ -10,7 +10,8 @@ loop-s-again c = euclid-turns _ _ _ _ _ _ (omega arith) (c .loop-s .inv) (omega 
 
 pub returns-then-r-eq1 : need.returns-then-r-eq1
 returns-then-r-eq1 c =
-    (c .loop-s .inv .first-below, euclid-finds _ _ _ _ _ _ (c .pre .0) (c .loop-s .inv) (c .if-r-eq1 .taken))
+    let found = euclid-finds _ _ _ _ _ _ (c .pre .0) (c .loop-s .inv) (c .if-r-eq1 .taken) in
+    (omega (arith, c .loop-s .inv), omega (arith, found))
 
 pub returns-else-r-eq1 : need.returns-else-r-eq1
 returns-else-r-eq1 c = euclid-misses _ _ _ _ _ _ (c .loop-s .inv) (c .loop-s-test .left) (c .if-r-eq1 .left)

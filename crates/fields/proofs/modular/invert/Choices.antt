@@ -1,4 +1,3 @@
-use Prim.Native.Nat.{_<_, _≤_}
 use Rattle.theory.proofs.Euclid.{Euclid}
 use Rattle.fields.proofs.modular.invert.Given as given
 

@@ -1,4 +1,4 @@
-use Rattle.roots.proofs.Orders.{Powers-on}
+use Rattle.roots.proofs.OrderLoop.{Powers-on}
 use Rattle.roots.proofs.checks.has_order.Given as given
 
 abbrev pub Inv-loop-k : given.InvT-loop-k

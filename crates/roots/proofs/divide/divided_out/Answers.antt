@@ -1,4 +1,4 @@
-use Rattle.roots.proofs.Dividing.{divides-starts, divides-turn, divides-stops, divides-ends}
+use Rattle.roots.proofs.DivideLoops.{divides-starts, divides-turn, divides-stops, divides-ends}
 use Rattle.roots.proofs.divide.divided_out.Needs as need
 
 pub loop-i-holds : need.loop-i-holds

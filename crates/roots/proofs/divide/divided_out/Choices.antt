@@ -1,4 +1,4 @@
-use Rattle.roots.proofs.Dividing.{Divides-on}
+use Rattle.roots.proofs.DivideLoops.{Divides-on}
 use Rattle.roots.proofs.divide.divided_out.Given as given
 
 abbrev pub Inv-loop-i : given.InvT-loop-i

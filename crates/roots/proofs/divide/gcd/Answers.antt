@@ -1,6 +1,6 @@
 use mathlib.Core.Path.{sym, _∙_}
 use native.Mathlib.Omega.{arith}
-use Rattle.roots.proofs.Dividing.{gcd-turn, gcd-ends}
+use Rattle.roots.proofs.DivideLoops.{gcd-turn, gcd-ends}
 use Rattle.roots.proofs.divide.gcd.Needs as need
 
 pub loop-small-again : need.loop-small-again

@@ -1,5 +1,5 @@
 use native.Mathlib.Omega.{arith}
-use Rattle.roots.proofs.Dividing.{Gone, goes-starts, goes-turn, goes-stops, goes-ends}
+use Rattle.roots.proofs.DivideLoops.{Gone, goes-starts, goes-turn, goes-stops, goes-ends}
 use Rattle.roots.proofs.divide.parted.Needs as need
 
 pub loop-times-holds : need.loop-times-holds

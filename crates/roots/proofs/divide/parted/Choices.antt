@@ -1,4 +1,4 @@
-use Rattle.roots.proofs.Dividing.{Goes-on}
+use Rattle.roots.proofs.DivideLoops.{Goes-on}
 use Rattle.roots.proofs.divide.parted.Given as given
 
 abbrev pub Inv-loop-times : given.InvT-loop-times

@@ -1,6 +1,6 @@
 use mathlib.Core.Path.{ap, _∙_}
 use Prim.Native.Nat.{min}
-use Rattle.roots.proofs.SeekTurns.{seeks-start, seeks-here, seeks-later, seeks-end, leads-by}
+use Rattle.roots.proofs.SeekLoop.{seeks-start, seeks-here, seeks-later, seeks-end, leads-by}
 use Rattle.roots.proofs.seek.seek_order.Needs as need
 
 pub loop-g-holds : need.loop-g-holds

@@ -1,5 +1,5 @@
 use Rattle.roots.specs.Drafts.{leads}
-use Rattle.roots.proofs.SeekTurns.{Seeks-on}
+use Rattle.roots.proofs.SeekLoop.{Seeks-on}
 use Rattle.roots.proofs.seek.seek_order.Given as given
 
 abbrev pub Inv-loop-g : given.InvT-loop-g

@@ -1,9 +1,6 @@
-use mathlib.Core.Path.{_≡_, refl, sym, ap, subst, _∙_}
-use Rattle.roots.specs.Held.{held-state}
-use Rattle.roots.specs.Laws.{Kept}
-use Rattle.roots.specs.Runs.{run}
-use Rattle.roots.proofs.Replays.{runs-start, runs-turn, runs-end}
-use Rattle.roots.proofs.Runs.{runs-keep}
+use mathlib.Core.Path.{refl, ap, _∙_}
+use Rattle.roots.proofs.Promises.{replay-keeps}
+use Rattle.roots.proofs.RunLoop.{runs-start, runs-turn, runs-end}
 use Rattle.roots.proofs.draft.Draft.replay.Needs as need
 
 pub loop-call-holds : need.loop-call-holds
@@ -20,12 +17,10 @@ loop-call-again g c = (
 
 pub returns : need.returns
 returns g c =
-    let m = g .F·Ring .meaning (c .args .field) in
-    let calls = c .args .calls .now in
-    let value : held-state (c .loop-call .draft .held) ≡ run m calls =
-    runs-end _ _ _ _ _ (c .loop-call-test .left) (ap (g .F·Ring .meaning) (c .start-draft .ensures .field)) (c .loop-call .inv .1) in
+    let field = c .args .field in
+    let ends = runs-end _ _ _ _ _ (c .loop-call-test .left) (ap (g .F·Ring .meaning) (c .start-draft .ensures .field)) (c .loop-call .inv .1) in
     record {
-      value = value;
+      value = ends;
       field = c .loop-call .inv .0 ∙ c .start-draft .ensures .field;
-      keeps = subst (Kept m calls) (sym value) (runs-keep m (g .F·Ring .laws (c .args .field)) calls);
+      kept = replay-keeps (g .F·Ring .meaning field) (g .F·Ring .laws field) _ _ ends;
     }

@@ -1,6 +1,6 @@
 use mathlib.Core.Path.{_≡_}
 use Rattle.roots.specs.Held.{held-state}
-use Rattle.roots.proofs.Replays.{Runs-on}
+use Rattle.roots.proofs.RunLoop.{Runs-on}
 use Rattle.roots.proofs.draft.Draft.replay.Given as given
 
 abbrev pub Inv-loop-call : given.InvT-loop-call

@@ -15,8 +15,9 @@ add-x c =
 
 pub returns-in-Some : need.returns-in-Some
 returns-in-Some c =
-    conjugate-found (c .args .self .now .p) (c .args .a) _ _ (c .args .self .now .low) (c .args .self .now .high)
-    (c .real-x .ensures) (c .imaginary-y .ensures) _ _ (c .in-Some .ensures tt .1) (c .code .ensures)
+    conjugate-found (c .args .self .now .p) (c .args .a) (c .real-x .result) (c .imaginary-y .result)
+    (c .args .self .now .low) (c .args .self .now .high) (c .real-x .ensures) (c .imaginary-y .ensures) (c .in-Some .v)
+    (c .code .result) (c .in-Some .ensures tt .1) (omega (arith, c .code .ensures))
 
 pub returns-in-None : need.returns-in-None
 returns-in-None c = (

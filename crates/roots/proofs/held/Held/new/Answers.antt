@@ -1,7 +1,0 @@
-use mathlib.Core.Path.{refl}
-use lib.Dec.{lit≤}
-use Rattle.roots.proofs.Rows.{none-small}
-use Rattle.roots.proofs.held.Held.new.Needs as need
-
-pub ghost-result : need.ghost-result
-ghost-result c = (lit≤ tt, (refl, (none-small, tt)))
