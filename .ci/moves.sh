@@ -15,7 +15,7 @@ cat > "$work/right" <<'RATTLE'
 use fields::Residues;
 use fields::ResiduesField;
 use fields::ResiduesRing;
-use roots::draft::Draft;
+use roots::Draft;
 
 pub fn place(field: Residues, root: u64, mark: u64) -> u64 {
     let mut draft = Draft::start(field);

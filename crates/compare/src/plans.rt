@@ -1,9 +1,9 @@
 // Several plans over one field: which factors of the odd part they hold, and in what power.
 use ring::Field;
-use roots::draft::Draft;
+use roots::Draft;
 
 #[derive(Clone, Copy)]
-pub enum Way {
+pub(crate) enum Way {
     // no factor: the rest is the whole odd part
     Bare,
     // each prime in its full power: the rest is 1
@@ -17,7 +17,7 @@ pub enum Way {
 }
 
 impl Way {
-    pub const ALL: [Way; 5] = [Way::Bare, Way::Full, Way::Single, Way::Composite, Way::Last];
+    pub(crate) const ALL: [Way; 5] = [Way::Bare, Way::Full, Way::Single, Way::Composite, Way::Last];
 }
 
 // How often r goes into n, 16 times at most.
@@ -75,7 +75,7 @@ fn largest_prime(n: u64) -> u64 {
     largest
 }
 
-pub fn drafted<F: Field>(field: F, way: Way) -> Draft<F> {
+pub(crate) fn drafted<F: Field>(field: F, way: Way) -> Draft<F> {
     let mut draft = Draft::start(field);
     let _ = draft.seek_fourth();
     match way {

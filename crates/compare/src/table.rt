@@ -1,19 +1,20 @@
 // The square roots of every number of a small ring, by trying them all.
 use refusals::Refusal;
 use ring::Ring;
+use roots::Answer;
 use std::alloc::AllocError;
 use std::alloc::Global;
 
 // The least and the greatest number that square to each code; 0 where there is none.
 #[derive(Drop)]
-pub struct Table {
+pub(crate) struct Table {
     size: u64,
     least: Vec<u64>,
     greatest: Vec<u64>,
 }
 
 impl Table {
-    pub fn of<R: Ring>(heap: Global, ring: &R) -> Result<Table, AllocError> {
+    pub(crate) fn of<R: Ring>(heap: Global, ring: &R) -> Result<Table, AllocError> {
         let size = ring.size();
         let mut least = Vec::new(heap);
         let mut greatest = Vec::new(heap);
@@ -38,7 +39,7 @@ impl Table {
     }
 
     // Whether rooting a mark over a lawful field answered as it should.
-    pub fn agrees(&self, mark: u64, answer: Result<((u64, u64), (u64, u64)), Refusal>) -> bool {
+    pub(crate) fn agrees(&self, mark: u64, answer: Result<Answer, Refusal>) -> bool {
         let least = self.least.get(mark as usize).copied().unwrap_or(0);
         let greatest = self.greatest.get(mark as usize).copied().unwrap_or(0);
         match answer {

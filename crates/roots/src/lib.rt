@@ -13,3 +13,12 @@ pub mod plan;
 mod root;
 mod search;
 mod seek;
+
+pub use call::Call;
+pub use draft::Draft;
+pub use factor::Factor;
+pub use house::HOUSE;
+pub use house::Row;
+pub use house::house_row;
+pub use plan::Answer;
+pub use plan::Plan;

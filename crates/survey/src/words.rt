@@ -3,18 +3,18 @@ use std::env;
 use std::error::AnyError;
 
 // The field of the day's marks.
-pub const DAY: u64 = 2013265921;
+pub(crate) const DAY: u64 = 2013265921;
 
 // The marks of the samples 48,000 and 5,760,000; one that goes through the factors 3 and 5, at sample 69,795; one that is no square; one that is
 // not below the size.
 const MARKS: [u64; 5] = [290734079, 990887841, 844810183, 11, 2013265921];
 
 #[derive(Drop)]
-pub struct Task {
-    pub modulus: u64,
-    pub marks: Vec<u64>,
+pub(crate) struct Task {
+    pub(crate) modulus: u64,
+    pub(crate) marks: Vec<u64>,
     // no argument was given
-    pub of_the_day: bool,
+    pub(crate) of_the_day: bool,
 }
 
 fn number(word: &str) -> Result<u64, AnyError> {
@@ -25,7 +25,7 @@ fn number(word: &str) -> Result<u64, AnyError> {
 }
 
 impl Task {
-    pub fn read(rt: &LibcRuntime) -> Result<Task, AnyError> {
+    pub(crate) fn read(rt: &LibcRuntime) -> Result<Task, AnyError> {
         let mut marks = Vec::new(rt.alloc());
         let mut words = env::args(rt)?;
         let _program = words.next();

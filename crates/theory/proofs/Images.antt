@@ -12,7 +12,7 @@ use Rattle.theory.specs.Power.{power, Order}
 use Rattle.theory.specs.declared.Ratio.{Ratio}
 use Rattle.theory.proofs.Algebra.{CommRing, IsField, ring-pow, mul-zero, zero-mul, one-mul, neg-zero, neg-mul-neg, no-zero-divisors}
 use Rattle.theory.proofs.Codes.{Code, code, code-ring, code-field, code-of-value, code-injective, code-zero, code-one, code-negative, code-product, code-power, code-is-zero, zero-code, power-below, code-rules}
-use Rattle.theory.proofs.RingRatios.{plus-step, minus-step, spent-one, one-spent, plus-some, minus-some, image-not-one, image-minus-one, image-distinct, image-powers, unit-powers, fourth-null, fourth-some, fourth-root, match-root, match-linear, match-square, match-turned, minus-one-square, odd-power}
+use Rattle.theory.proofs.RingRatios.{plus-step, minus-step, spent-one, one-spent, plus-some, minus-some, image-not-one, image-minus-one, image-distinct, image-powers, unit-powers, fourth-null, fourth-some, fourth-root, match-root, match-linear, match-square, match-turned}
 
 -- The number h of g for the mark β = α × α: h·(g − α) = g + α.
 pub record Image (m : Meaning) (α β g : ℕ) : Type 0 where
@@ -259,31 +259,3 @@ match-inverse m laws β x y z z′ inv e =
     (simp code-rules
     (match-turned (code-ring m laws) (code m laws β) (code m laws x) (code m laws y) (code m laws z) (code m laws z′)
     (simp code-rules at (ap (code m laws) inv)) (simp code-rules at (ap (code m laws) e))))
-
--- The bottom of the match test is not 0 for y not 0 and z of odd order: z = −1 would be its own odd powers.
-pub bottom-unit : (m : Meaning) (laws : Laws m) → Lawful m → (y z r : ℕ) → (y % m .size ≡ 0 → ⊥) → Order m z r → 1 < r
-    → r % 2 ≡ 1 → m .product y (m .sum z 1) ≡ 0 → ⊥
-bottom-unit m laws lawful y z r some order high odd e =
-    order .least 1 (omega arith) high
-    (code-injective m laws _ _ (power-below m laws z 1) (laws .size-low)
-    (code-power m laws z 1 ∙ odd-power ring c square 0 ∙ one ∙ sym (code-one m laws)))
-  where
-    ring : CommRing (Code m)
-    ring = code-ring m laws
-
-    c : Code m
-    c = code m laws z
-
-    square : ring .mul c c ≡ ring .one
-    square =
-        minus-one-square ring c
-        (no-zero-divisors ring (code-field m laws lawful) (code m laws y) _ (λ q. some (zero-code m laws y q))
-        (simp code-rules at (ap (code m laws) e)))
-
-    halves : suc (r / 2 + r / 2) ≡ r
-    halves = omega arith
-
-    one : c ≡ ring .one
-    one =
-        sym (odd-power ring c square (r / 2)) ∙ ap (ring-pow ring c) halves ∙ sym (code-power m laws z r)
-        ∙ ap (code m laws) (order .one) ∙ code-one m laws

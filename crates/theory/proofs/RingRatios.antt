@@ -142,18 +142,3 @@ module _ {R : Type 0} (r : CommRing R) where
       by-equations r (z ⊗ z)
       (⊖ (x ⊗ x ⊗ (r .one ⊕ z ⊗ z′ ⊕ ⊖ (z ⊕ z)) ⊕ ⊖ (β ⊗ (y ⊗ y) ⊗ (r .one ⊕ z ⊗ z′ ⊕ (z ⊕ z))))) e inv
       (solve r (β ∷ x ∷ y ∷ z ∷ z′ ∷ []) (search quote depth 20) tt)
-
-  -- −1 squares to 1, and a number that does is its own odd powers.
-  pub minus-one-square : (z : R) → z ⊕ r .one ≡ r .zero → z ⊗ z ≡ r .one
-  minus-one-square z e = by-equation r (z ⊕ ⊖ r .one) e (solve r (z ∷ []) (search quote depth 20) tt)
-
-  even-power : (z : R) → z ⊗ z ≡ r .one → (j : ℕ) → ring-pow r z (j + j) ≡ r .one
-  unfolding ring-pow
-  even-power z h zero = refl
-  even-power z h (suc j) =
-      ap (ring-pow r z) (suc-add j (suc j) ∙ ap suc (add-suc j j)) ∙ r .mul-assoc _ z z ∙ ap (r .mul _) h ∙ r .mul-one _
-      ∙ even-power z h j
-
-  pub odd-power : (z : R) → z ⊗ z ≡ r .one → (j : ℕ) → ring-pow r z (suc (j + j)) ≡ z
-  unfolding ring-pow
-  odd-power z h j = ap (λ (x : R). x ⊗ z) (even-power z h j) ∙ one-mul r z
