@@ -13,10 +13,10 @@ abbrev pub ResiduesLawful : ℕ → ℕ → Type 0
 ResiduesLawful least greatest =
     (q : ℕ) → least ≤ q → q ≤ greatest → (Prime q → Lawful (residues q)) × (Lawful (residues q) → Prime q)
 
--- For every prime p from the least to the greatest that leaves the rest on division by 4, the pairs modulo p are lawful.
+-- For every prime p from the least to the greatest that leaves the given remainder on division by 4, the pairs modulo p are lawful.
 abbrev pub PairsLawful : ℕ → ℕ → ℕ → Type 0
-PairsLawful least greatest rest =
-    (p : ℕ) → least ≤ p → p ≤ greatest → p % 4 ≡ rest → Prime p → Lawful (pairs p)
+PairsLawful least greatest remainder =
+    (p : ℕ) → least ≤ p → p ≤ greatest → p % 4 ≡ remainder → Prime p → Lawful (pairs p)
 
 -- The residues modulo each of the numbers are lawful.
 pub record EachLawful (moduli : List ℕ) : Type 0 where

@@ -16,7 +16,7 @@ pub record Prime (p : ℕ) : Type 0 where
 abbrev pub Coprime : ℕ → ℕ → Type 0
 Coprime a b = (d : ℕ) → Divides d a → Divides d b → d ≡ 1
 
--- The binary digits of k, and how many of them are 1; the first number bounds how many are looked at, and k itself is enough.
+-- How many binary digits k has, and how many of them are 1; the first number bounds how many are looked at, and 64 are enough below 2 ^ 64.
 unfoldable pub bits-in : ℕ → ℕ → ℕ
 bits-in zero k = 0
 bits-in (suc d) zero = 0
