@@ -1,4 +1,6 @@
 // The book of a plan over residues: the field is made, factors and the fourth root are taken, and the closed plan is written to standard output.
+#![tactic(auto)]
+
 mod fault;
 mod plans;
 mod words;
@@ -9,6 +11,7 @@ use fields::Residues;
 use plans::plan_of;
 use roots::Plan;
 use std::io::Write;
+use std::process::ExitCode;
 use words::Task;
 
 // The longest book: a head of 16 bytes, and eight factors of 12.
@@ -35,10 +38,12 @@ fn run(rt: &HostRuntime) -> Result<(), Fault> {
     put_book(rt, &plan)
 }
 
-fn main(rt: HostRuntime) -> Result<(), Fault> {
-    let result = run(&rt);
-    if let Err(fault) = &result {
-        let _ = eprintln!(rt; "book: {fault}");
+fn main(rt: HostRuntime) -> ExitCode {
+    match run(&rt) {
+        Ok(()) => ExitCode::SUCCESS,
+        Err(fault) => {
+            let _ = eprintln!(rt; "book: {fault}");
+            ExitCode::FAILURE
+        }
     }
-    result
 }

@@ -1,12 +1,11 @@
 -- Loading, from its steps: opening, beginning a draft, and filling it.
-use Rattle.std.proofs.Common.{◌≡◌, ℕ, List, Ok, Result, sym, ap, ◌∙◌, subst, ap₂}
+use Rattle.std.proofs.Common.{◌≡◌, ℕ, List, Ok, sym, ap, ◌∙◌, ap₂}
 use Rattle.theory.specs.Residues.{residues}
-use Rattle.refusals.specs.declared.Refusal.{Refusal}
 use Rattle.roots.specs.declared.call.Call.{Call}
 use Rattle.roots.specs.Runs.{tried}
 use Rattle.roots.specs.State.{State, start}
-use Rattle.books.specs.Layout.{Head, opened}
-use Rattle.books.specs.Loading.{Bound, calls_of, with_modulus, loaded, loaded_over, loaded_with}
+use Rattle.books.specs.Layout.{opened}
+use Rattle.books.specs.Loading.{calls_of, with_modulus, loaded, loaded_over, loaded_with}
 
 -- The head's words are q, i and n; the draft is over q and begins as it should; the calls of the book leave s in it.
 pub loads_to : (book same-book : List ℕ) (q i n at : ℕ) (begun s : State)

@@ -1,10 +1,9 @@
 -- Loading, call by call: an accepted call goes on, and a refused one ends it.
-use Rattle.std.proofs.Common.{◌≡◌, ℕ, zero, suc, ◌+◌, ◌-◌, ◌*◌, ◌<◌, ◌≤◌, List, [], ◌∷◌, ◌++◌, Ok, Err, Result, sym, refl, ap, ◌∙◌, arith}
+use Rattle.std.proofs.Common.{◌≡◌, ℕ, zero, suc, ◌+◌, ◌-◌, ◌<◌, ◌≤◌, List, [], ◌∷◌, ◌++◌, Ok, Err, Result, sym, refl, ap, ◌∙◌, arith}
 use Rattle.theory.specs.Meaning.{Meaning}
 use Rattle.refusals.specs.declared.Refusal.{Refusal}
 use Rattle.roots.specs.declared.call.Call.{Call}
 use Rattle.roots.specs.declared.call.Call.TheVariants.{Give}
-use Rattle.roots.specs.declared.factor.Factor.{Factor}
 use Rattle.roots.specs.Drafts.{Outcome, answer, next}
 use Rattle.roots.specs.Runs.{step, tried}
 use Rattle.roots.specs.State.{State}

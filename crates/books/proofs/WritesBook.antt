@@ -1,5 +1,5 @@
 -- Writing a book over the front of an output that has room for it.
-use Rattle.std.proofs.Common.{◌≡◌, ℕ, ◌+◌, ◌*◌, ◌≤◌, true, not, ltb, List, ◌++◌, length, take, drop, Ok, Result, sym, refl, ap, ◌∙◌, subst, arith}
+use Rattle.std.proofs.Common.{◌≡◌, ℕ, ◌+◌, ◌*◌, ◌≤◌, true, not, ltb, List, ◌++◌, length, take, drop, Ok, Result, sym, ap, ◌∙◌, subst, arith}
 use Rattle.std.proofs.lemmas.List.{take_at}
 use Rattle.std.proofs.lemmas.Bool.{not_from_true, le-ltb}
 use Rattle.theory.specs.Residues.{residues}
@@ -11,7 +11,7 @@ use Rattle.roots.specs.State.{State, served}
 use Rattle.roots.proofs.Passes.{through}
 use Rattle.octets.specs.Buffers.{laid_over}
 use Rattle.octets.proofs.Joined.{laid_whole}
-use Rattle.books.specs.Loading.{Bound, loaded}
+use Rattle.books.specs.Loading.{loaded}
 use Rattle.books.specs.Output.{Written, left_by, length_by}
 use Rattle.books.specs.Writing.{book_of, writing}
 use Rattle.books.proofs.WriteLoops.{book_length}

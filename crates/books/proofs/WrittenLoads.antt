@@ -1,22 +1,20 @@
 -- The book of a plan is loaded as that plan.
-use Rattle.std.proofs.Common.{◌≡◌, ℕ, zero, suc, ◌+◌, ◌*◌, ◌^◌, ◌<◌, ◌≤◌, Bool, true, false, not, ◌||◌, eqb, ltb, leb, List, [], ◌∷◌, ◌++◌, length, drop, Some, None, Ok, Option, Result, sym, refl, ap, ◌∙◌, arith, length-append}
+use Rattle.std.proofs.Common.{◌≡◌, ℕ, zero, suc, ◌+◌, ◌*◌, ◌^◌, ◌<◌, ◌≤◌, true, not, ◌||◌, eqb, ltb, leb, List, [], ◌∷◌, ◌++◌, length, drop, Some, None, Ok, Option, sym, refl, ap, ◌∙◌, arith, length-append}
 use Rattle.std.proofs.lemmas.List.{drop-drop, drop_at}
-use Rattle.std.proofs.lemmas.Bool.{true≢false, not_from_true, le-ltb, le-leb, eq-eqb, and_from, or_from}
+use Rattle.std.proofs.lemmas.Bool.{not_from_true, le-ltb, le-leb, eq-eqb, and_from, or_from}
 use Rattle.std.specs.List.{AllByRecursion as All}
 use Rattle.theory.specs.Meaning.{Laws}
 use Rattle.theory.specs.Residues.{residues}
 use Rattle.theory.proofs.ResidueLaws.{residues_laws_31}
-use Rattle.refusals.specs.declared.Refusal.{Refusal}
 use Rattle.refusals.specs.declared.Refusal.TheVariants.{Format, Layout, Modulus, Size}
 use Rattle.roots.specs.declared.call.Call.{Call}
 use Rattle.roots.specs.declared.factor.Factor.{Factor}
-use Rattle.roots.specs.Drafts.{refuse}
 use Rattle.roots.specs.Laws.{adopting, giving_fourth, held_calls}
 use Rattle.roots.specs.Runs.{run}
 use Rattle.roots.specs.State.{State, served}
 use Rattle.roots.proofs.Passes.{through}
 use Rattle.roots.proofs.Rebuilt.{runs_rebuilt, run_fits, run_few, fourth_some}
-use Rattle.octets.specs.Words.{word, word_at}
+use Rattle.octets.specs.Words.{word_at}
 use Rattle.books.specs.Layout.{Head, offset, laid_out, opened}
 use Rattle.books.specs.Loading.{fourth_calls, book_calls, records, with_modulus, loaded_over, loaded_with}
 use Rattle.books.specs.RoundTrip.{WrittenLoads}

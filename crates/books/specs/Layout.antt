@@ -1,5 +1,5 @@
 -- How a book is laid out: a head of four words (format 1, modulus, fourth root or 0, count n), n offset words, and n records of eight bytes.
-use Rattle.std.specs.Prelude.{ℕ, zero, suc, ◌+◌, ◌*◌, Bool, true, not, ◌&&◌, ◌||◌, List, length, Ok, Err, Result, ◌==◌, nat_le, nat_lt}
+use Rattle.std.specs.Prelude.{ℕ, zero, suc, ◌+◌, ◌*◌, Bool, true, not, ◌&&◌, ◌||◌, List, length, Ok, Result, ◌==◌, nat_le, nat_lt}
 use Rattle.refusals.specs.declared.Refusal.{Refusal}
 use Rattle.refusals.specs.declared.Refusal.TheVariants.{Format, Layout}
 use Rattle.roots.specs.Drafts.{refuse}

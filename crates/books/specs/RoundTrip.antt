@@ -1,12 +1,11 @@
 -- A plan and its book, there and back.
-use Rattle.std.specs.Prelude.{◌≡◌, ℕ, ◌^◌, ◌<◌, ◌≤◌, true, List, take, Ok, Err, Result, slice_index}
+use Rattle.std.specs.Prelude.{◌≡◌, ℕ, ◌<◌, ◌≤◌, true, List, take, Ok, Result, slice_index}
 use Rattle.theory.specs.Residues.{residues}
 use Rattle.refusals.specs.declared.Refusal.{Refusal}
 use Rattle.roots.specs.declared.call.Call.{Call}
 use Rattle.roots.specs.Runs.{run}
 use Rattle.roots.specs.State.{State, served}
-use Rattle.books.specs.Layout.{Head}
-use Rattle.books.specs.Loading.{Bound, book_calls, loaded}
+use Rattle.books.specs.Loading.{loaded}
 use Rattle.books.specs.Writing.{book_of}
 
 -- Over the residues by every modulus that is served, after every list of calls: the plan, written as a book, is loaded as that plan.

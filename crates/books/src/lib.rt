@@ -1,4 +1,6 @@
 // Books: a closed plan over residues as bytes, and back.
+#![tactic(auto)]
+
 mod book;
 mod load;
 mod part;

@@ -7,8 +7,8 @@ ghost use Rattle.books.specs.Output.{left_by, length_by};
 ghost use Rattle.books.specs.RoundTrip.{LoadsBack};
 ghost use Rattle.books.specs.Writing.{book_of, fourth_word, head_bytes, offset_words, records_bytes, writing};
 
-use octets::Buffer;
 use fields::Residues;
+use octets::Buffer;
 use refusals::Refusal;
 use ring::Ring;
 use roots::{Factor, Plan, is_served};

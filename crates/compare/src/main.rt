@@ -1,5 +1,7 @@
 // Compares rooting with brute force: every mark of many small fields, with several plans each; and, over rings that are not lawful, that every
 // call ends and every accepted root squares to its mark.
+#![tactic(auto)]
+
 mod plans;
 mod table;
 

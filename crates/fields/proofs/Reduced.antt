@@ -1,6 +1,6 @@
 -- Sums, negatives and products of remainders, brought below q again. Each x stands for a % q, and y for b % q.
 use Rattle.std.proofs.Common.{◌≡◌, ℕ, ◌+◌, ◌-◌, ◌*◌, ◌%◌, ◌<◌, ◌≤◌, sym, ap, ◌∙◌, ap₂, mod-lt, mod-eq_of_lt, mul-le-mul, arith}
-use native.Mathlib.Nat.{add-mod, mod-eq-sub-mod, mod_self, sub_zero}
+use native.Mathlib.Nat.{add-mod, mod-eq-sub-mod, mod_self, sub-zero}
 use Rattle.theory.proofs.Congruence.{same_mod, same_mul}
 
 module _ (q a b x y : ℕ) (first : x ≡ a % q) (second : y ≡ b % q) where
@@ -20,7 +20,7 @@ module _ (q a b x y : ℕ) (first : x ≡ a % q) (second : y ≡ b % q) where
 
 module _ (q a x : ℕ) (first : x ≡ a % q) where
   pub negative_zero : x ≡ 0 → 0 ≡ (q - a % q) % q
-  negative_zero h = sym (ap (λ n. (q - n) % q) (sym first ∙ h) ∙ ap (λ n. n % q) (sub_zero q) ∙ mod_self q)
+  negative_zero h = sym (ap (λ n. (q - n) % q) (sym first ∙ h) ∙ ap (λ n. n % q) (sub-zero q) ∙ mod_self q)
 
   pub negative_above : 0 < q → (x ≡ 0 → ⊥) → q - x ≡ (q - a % q) % q
   negative_above some h = sym (ap (λ n. (q - n) % q) (sym first) ∙ mod-eq_of_lt (omega arith))

@@ -1,4 +1,6 @@
 // The fields at hand: residues modulo q, and pairs modulo p.
+#![tactic(auto)]
+
 mod lawful;
 mod modular;
 mod pairs;

@@ -20,13 +20,14 @@ fn loads(rt: HostRuntime) -> Result<(), Fail> {
 // A book cut short at every length: 16 below the head's 16 bytes, and 17 from there on.
 #[test]
 fn truncated(rt: HostRuntime) {
+    let (book, eight) = (BOOK.as_slice(), EIGHT.as_slice());
     for n in 0..28 {
         let expected = if n < 16 { 16 } else { 17 };
-        assert_eq!(rt; refused(&BOOK[0..n]), expected, "{}", n);
+        assert_eq!(rt; refused(&book[0..n]), expected, "{}", n);
     }
     for n in 0..112 {
         let expected = if n < 16 { 16 } else { 17 };
-        assert_eq!(rt; refused(&EIGHT[0..n]), expected, "{}", n);
+        assert_eq!(rt; refused(&eight[0..n]), expected, "{}", n);
     }
 }
 
@@ -36,9 +37,10 @@ const LONG: &[u8; 64] =
 // A book with more bytes than its count asks for.
 #[test]
 fn extended(rt: HostRuntime) {
-    assert_eq!(rt; refused(&LONG[0..28]), 0);
+    let long = LONG.as_slice();
+    assert_eq!(rt; refused(&long[0..28]), 0);
     for n in 29..65 {
-        assert_eq!(rt; refused(&LONG[0..n]), 17, "{}", n);
+        assert_eq!(rt; refused(&long[0..n]), 17, "{}", n);
     }
 }
 

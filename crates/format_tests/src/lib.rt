@@ -1,4 +1,6 @@
 // Books, tracks and lines at their edges.
+#![tactic(auto)]
+
 #[cfg(test)]
 mod books;
 #[cfg(test)]

@@ -16,12 +16,13 @@ const LONG: &[u8; 40] =
 
 #[test]
 fn truncated_and_extended(rt: HostRuntime) {
+    let (track, long) = (TRACK.as_slice(), LONG.as_slice());
     for n in 0..20 {
-        assert_eq!(rt; opened(&TRACK[0..n]), Err(18), "{}", n);
+        assert_eq!(rt; opened(&track[0..n]), Err(18), "{}", n);
     }
     assert_eq!(rt; opened(TRACK), Ok(3));
     for n in 21..41 {
-        assert_eq!(rt; opened(&LONG[0..n]), Err(18), "{}", n);
+        assert_eq!(rt; opened(&long[0..n]), Err(18), "{}", n);
     }
 }
 
@@ -65,7 +66,7 @@ fn marks(rt: HostRuntime) -> Result<(), Fail> {
             assert_eq!(rt; track.mark(3), None);
             assert_eq!(rt; track.mark(18446744073709551615), None);
             let marks = track.marks(rt.alloc())?;
-            assert!(rt; marks.as_slice() == [2u32, 94, 5]);
+            assert!(rt; marks.as_slice() == [2u32, 94, 5].as_slice());
             Ok(())
         }
         Err(why) => Err(Fail::new(why.number())),

@@ -1,6 +1,6 @@
 -- A ladder on its way up.
 use Rattle.std.proofs.Common.{◌≡◌, ℕ, suc, ◌+◌, ◌-◌, ◌*◌, ◌<◌, ◌≤◌, Bool, true, false, cond, leb, Some, None, Ok, Err, Option, sym, refl, ap, ◌∙◌, ap₂, suc-mul, mul-le-mul_left, zero-mul, add-one, arith}
-use native.Mathlib.Nat.{sub_zero}
+use native.Mathlib.Nat.{sub-zero}
 use lib.Dec.{leb-suc-suc}
 use Rattle.std.proofs.lemmas.Bool.{le-leb}
 use Rattle.theory.specs.First.{first}
@@ -58,7 +58,7 @@ module _ {E : Type 0} (o : Operation E) where
     one_back = refl;
     two_back = refl;
     joined = sym (zero-mul (joinings by));
-    searched = sym (ap (first (λ i. o.spent (rung o y by i)) 0) (sub_zero (suc length)));
+    searched = sym (ap (first (λ i. o.spent (rung o y by i)) 0) (sub-zero (suc length)));
   }
 
 module _ {E : Type 0} (o : Operation E) (x : E) (by length k : ℕ) (here : E) (one two : Option E) (count : ℕ) (c : Climbing o x by length k here one two count) where

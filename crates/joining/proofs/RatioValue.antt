@@ -1,6 +1,6 @@
 -- The value of a ratio, from what a field answers for the inverse of its bottom.
 use Rattle.std.proofs.Common.{◌≡◌, ℕ, Ok, Err, sym, ap, ◌∙◌}
-use Rattle.theory.specs.Meaning.{Meaning, Laws, inverse}
+use Rattle.theory.specs.Meaning.{Meaning, Laws}
 use Rattle.ring.specs.declared.RingFault.{RingFault}
 use Rattle.ring.specs.Inverse.{Inverted}
 use Rattle.ring.proofs.InverseValue.{inverted_ok, inverted_err}

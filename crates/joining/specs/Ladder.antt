@@ -1,11 +1,11 @@
 -- What a ladder answers, and how many joinings it makes.
-use Rattle.std.specs.Prelude.{◌≡◌, ℕ, ◌+◌, ◌*◌, Some, None, Ok, Err, Option, Result}
+use Rattle.std.specs.Prelude.{ℕ, ◌+◌, ◌*◌, Some, None, Ok, Err, Option, Result}
 use Rattle.theory.specs.Numbers.{joinings}
 use Rattle.theory.specs.Operation.{Operation, pow, rank, before}
 use Rattle.joining.specs.declared.Back.{Back}
 use Rattle.joining.specs.declared.Back.TheVariants.{One, Two}
 use Rattle.joining.specs.declared.JoiningFault.{JoiningFault}
-use Rattle.joining.specs.declared.JoiningFault.TheVariants.{NoInverse, NoRank}
+use Rattle.joining.specs.declared.JoiningFault.TheVariants.{NoRank}
 
 abbrev pub places : Back → ℕ
 places One = 1

@@ -2,7 +2,7 @@
 use Rattle.std.specs.Prelude.{ℕ, Some, None, Ok, Err, Option, Result}
 use Rattle.theory.specs.Meaning.{Meaning, inverse}
 use Rattle.joining.specs.declared.JoiningFault.{JoiningFault}
-use Rattle.joining.specs.declared.JoiningFault.TheVariants.{NoInverse, NoRank}
+use Rattle.joining.specs.declared.JoiningFault.TheVariants.{NoInverse}
 
 abbrev pub quotient_by : Meaning → ℕ → ℕ → Option ℕ → Result ℕ JoiningFault
 quotient_by m top bottom None = Err (NoInverse bottom)

@@ -16,11 +16,10 @@ fn remainder<R: Ring>(ring: &R, code: u64) -> u64
 }
 
 // The numbers of a ring under multiplication: a code is its own element, and 1 is spent.
+#[derive_where(Clone, Copy)]
 pub struct Multiplication<'a, R: Ring> {
     ring: &'a R,
 }
-
-impl<'a, R: Ring> Copy for Multiplication<'a, R> {}
 
 impl<'a, R: Ring> Multiplication<'a, R> {
     pub fn new(ring: &'a R) -> Self
@@ -59,12 +58,11 @@ impl<'a, R: Ring> Joining for Multiplication<'a, R> {
 }
 
 // The ratios for a mark: the element of a code g is g : 1, and a ratio with the bottom 0 is spent.
+#[derive_where(Clone, Copy)]
 pub struct Ratios<'a, R: Ring> {
     ring: &'a R,
     mark: u64,
 }
-
-impl<'a, R: Ring> Copy for Ratios<'a, R> {}
 
 impl<'a, R: Ring> Ratios<'a, R> {
     pub fn new(ring: &'a R, mark: u64) -> Self

@@ -14,7 +14,7 @@ pub fn ladder<J: Joining>(
     back: Back,
     code: u64,
 ) -> Result<(Option<J::Element>, u64), JoiningFault>
-    ensures value { result ≡ laddered (meaning joining.now) x by length back code }
+    ensures value { result ≡ laddered (J.meaning joining.now) x by length back code }
     ensures few { IfOk result (λ found. found.1 ≤ 126 * length) }
 {
     let mut here = joining.reduced(x);
@@ -48,7 +48,7 @@ pub fn climb<J: Joining>(
     length: u16,
     back: Back,
 ) -> Result<(Option<J::Element>, u64), JoiningFault>
-    ensures value { result ≡ climbed (meaning joining.now) code exponent by length back }
+    ensures value { result ≡ climbed (J.meaning joining.now) code exponent by length back }
     ensures few { IfOk result (λ found. found.1 ≤ 126 + 126 * length) }
 {
     let (start, raising) = power(joining, joining.element(code), exponent);

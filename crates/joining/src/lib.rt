@@ -1,4 +1,6 @@
 // Joinings: what one can do, powers and ladders in any of them, and the two that a ring gives.
+#![tactic(auto)]
+
 ghost use Rattle.std.specs.Prelude.{◌≡◌};
 ghost use Rattle.joining.specs.Fault.{fault_of};
 ghost use Rattle.theory.specs.Operation.{Operation, OperationLaws};

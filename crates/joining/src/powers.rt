@@ -7,7 +7,7 @@ use super::Joining;
 
 // The power k of x, and the joinings made. It goes down the binary digits of k from the top: a squaring for each below the top, and then a joining with x where the digit is 1.
 pub fn power<J: Joining>(joining: &J, x: J::Element, k: u64) -> (J::Element, u64)
-    ensures value { result.0 ≡ pow (meaning joining.now) x k }
+    ensures value { result.0 ≡ pow (J.meaning joining.now) x k }
     ensures count { result.1 ≡ joinings k }
     ensures few { result.1 ≤ 126 }
 {

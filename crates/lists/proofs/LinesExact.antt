@@ -1,5 +1,5 @@
 -- The line of a mark tells its roots exactly.
-use Rattle.std.proofs.Common.{◌≡◌, ℕ, ◌<◌, ◌≤◌, ltb, leb, ◌⊎◌, List, Some, Ok, Err, Option, Result, sym, refl, ap, ◌∙◌, subst, inl, inr, arith}
+use Rattle.std.proofs.Common.{◌≡◌, ℕ, ◌<◌, ◌≤◌, ltb, leb, ◌⊎◌, List, Some, Ok, Err, Result, sym, refl, ap, ◌∙◌, subst, inl, inr, arith}
 use Rattle.theory.specs.Meaning.{Laws}
 use Rattle.theory.specs.Numbers.{Prime}
 use Rattle.theory.specs.Residues.{residues}

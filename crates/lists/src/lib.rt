@@ -1,4 +1,6 @@
 // Lists: a book and a track as bytes, and the line of each mark.
+#![tactic(auto)]
+
 mod call;
 mod input;
 mod text;

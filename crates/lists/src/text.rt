@@ -4,8 +4,8 @@ ghost use Rattle.octets.specs.Buffers.{held, joined};
 ghost use Rattle.books.specs.Loading.{bound};
 ghost use Rattle.lists.specs.Texts.{noted, text_of_head, text_of_refused, answer_text, outcome_text, refusal_text, text_of_mark};
 
-use octets::Buffer;
 use fields::Residues;
+use octets::Buffer;
 use refusals::Refusal;
 use ring::Ring;
 use roots::{Answer, Plan};

@@ -1,4 +1,6 @@
 // The field with nine elements, as anybody may bring a field of their own. It owns its table of sums, so it is not `Copy`.
+#![tactic(auto)]
+
 ghost use Rattle.std.specs.Prelude.{◌≡◌, IfOk};
 ghost use Rattle.nine_laws.proofs.NineLaws.{laws_of_nine};
 ghost use Rattle.nine_laws.specs.Nine.{sums, nine};

@@ -1,8 +1,8 @@
 -- The field with nine elements keeps the laws of a ring and is lawful, by tests over all codes, pairs and triples of codes.
-use Rattle.std.proofs.Common.{◌≡◌, ℕ, ◌%◌, ◌<◌, Bool, true, false, ◌||◌, eqb, ltb, length, refl, ap, ◌∙◌, ⊎_elim, mod-eq_of_lt, arith, lit<, lit≤}
+use Rattle.std.proofs.Common.{◌≡◌, ℕ, ◌%◌, true, false, ◌||◌, eqb, ltb, length, refl, ap, ◌∙◌, ⊎_elim, mod-eq_of_lt, arith, lit<, lit≤}
 use native.Mathlib.Nat.{mod-mod}
 use Rattle.std.proofs.lemmas.Bool.{both_ways, eqb-true, ltb-true, ne_eqb, or_cases}
-use Rattle.theory.specs.Meaning.{Meaning, Laws, Lawful}
+use Rattle.theory.specs.Meaning.{Laws, Lawful}
 use Rattle.nine_laws.specs.Nine.{sums, added, opposite, times, upturned, nine}
 use Rattle.nine_laws.proofs.Every.{every, every_two, every_three, every_remainder, every_two_remainder, every_three_remainder}
 

@@ -1,4 +1,6 @@
 // Reads a book from standard input and prints each of its parts: where it begins, what it is, and its bytes.
+#![tactic(auto)]
+
 use books::{Book, Part};
 use std::io::Read;
 

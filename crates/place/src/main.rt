@@ -1,4 +1,6 @@
 // Reads a book followed at once by a track from standard input, and prints the head line and the line of each mark.
+#![tactic(auto)]
+
 use lists::list;
 use std::io::{Read, Write};
 

@@ -1,4 +1,6 @@
 // The C interface: the two calls on byte slices, each slice a pointer and then a length. include/pomyrasei.h declares them.
+#![tactic(auto)]
+
 ghost use Rattle.std.specs.Prelude.{◌≡◌, length};
 ghost use Rattle.books.specs.Output.{left_by};
 ghost use Rattle.lists.specs.Calls.{code_by, head_called, mark_called};

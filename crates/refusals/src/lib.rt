@@ -1,4 +1,6 @@
 // Why a call declines. Every refusal of every call is a case of one enum, and each case has a number.
+#![tactic(auto)]
+
 ghost use Rattle.std.specs.Prelude.{◌≡◌};
 ghost use Rattle.refusals.specs.Fault.{refused_by};
 ghost use Rattle.refusals.specs.Number.{numbered};

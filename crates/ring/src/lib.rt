@@ -1,4 +1,6 @@
 // Rings and fields as anybody may bring them: what their calls answer, and the laws that each shows of its meaning.
+#![tactic(auto)]
+
 ghost use Rattle.std.specs.Prelude.{◌≡◌, ℕ, ◌<◌};
 ghost use Rattle.ring.specs.Inverse.{Inverted};
 ghost use Rattle.theory.specs.Meaning.{Meaning, Laws};

@@ -1,5 +1,5 @@
 -- The search of step 2 over the codes g = 1, 2, …, turn by turn.
-use Rattle.std.proofs.Common.{◌≡◌, ℕ, suc, ◌+◌, ◌-◌, ◌*◌, ◌^◌, ◌<◌, ◌≤◌, Bool, true, false, cond, not, Some, None, Ok, Err, sym, refl, ap, ◌∙◌, ap₂, add-mul, one-mul, zero-mul, arith}
+use Rattle.std.proofs.Common.{◌≡◌, ℕ, ◌+◌, ◌-◌, ◌*◌, ◌<◌, ◌≤◌, Bool, true, false, cond, Ok, Err, sym, refl, ap, ◌∙◌, add-mul, one-mul, zero-mul, arith}
 use Rattle.std.proofs.lemmas.Bool.{eq-eqb, ne_eqb, or_left, or_right, or_from, not_from_true, not_from_false, cond-true, cond-false}
 use Rattle.theory.specs.First.{first}
 use Rattle.theory.specs.Meaning.{Meaning}

@@ -1,6 +1,6 @@
 -- The loops that divide one number out of another, turn by turn.
-use Rattle.std.proofs.Common.{◌≡◌, ℕ, zero, suc, ◌+◌, ◌-◌, ◌*◌, ◌/◌, ◌%◌, ◌^◌, ◌<◌, ◌≤◌, Bool, true, false, eqb, Some, None, Option, sym, refl, ap, ◌∙◌, mod-lt, zero-lt-suc, pow-suc, div-one, add-one, arith}
-use native.Mathlib.Nat.{sub_zero, pow-zero, div-div-eq-div-mul}
+use Rattle.std.proofs.Common.{◌≡◌, ℕ, zero, suc, ◌+◌, ◌-◌, ◌/◌, ◌%◌, ◌^◌, ◌<◌, ◌≤◌, true, false, Some, None, sym, refl, ap, ◌∙◌, mod-lt, zero-lt-suc, pow-suc, div-one, add-one, arith}
+use native.Mathlib.Nat.{sub-zero, pow-zero, div-div-eq-div-mul}
 use Rattle.std.proofs.lemmas.Bool.{eq-eqb, ne_eqb}
 use Rattle.roots.specs.Checks.{divided, parted_out, gcd_in, gcd}
 use Rattle.roots.specs.State.{multiplicity_in, multiplicity, cofactor}
@@ -27,7 +27,7 @@ module _ (r f n : ℕ) where
     where
       from : (f : ℕ) → (f ≡ 0 → ⊥) → divided r (f - 0) n ≡ parted_out r f n
       from zero some = absurd (some refl)
-      from (suc f) some = ap (λ k. divided r k n) (sub_zero (suc f))
+      from (suc f) some = ap (λ k. divided r k n) (sub-zero (suc f))
 
   more : (i : ℕ) → i < f → f - i ≡ suc (f - (i + 1))
   more i h = omega arith

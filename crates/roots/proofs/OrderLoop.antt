@@ -1,9 +1,9 @@
 -- The loop that tells the order of a number, turn by turn.
-use Rattle.std.proofs.Common.{◌≡◌, ℕ, zero, suc, ◌+◌, ◌-◌, ◌<◌, ◌≤◌, Bool, true, false, eqb, Some, None, sym, refl, ap, ◌∙◌, arith}
+use Rattle.std.proofs.Common.{◌≡◌, ℕ, suc, ◌+◌, ◌-◌, ◌<◌, ◌≤◌, Bool, false, eqb, sym, ap, ◌∙◌, arith}
 use Rattle.std.proofs.lemmas.Bool.{eq-eqb, ne_eqb}
 use Rattle.theory.specs.First.{first}
 use Rattle.theory.specs.Meaning.{Meaning}
-use Rattle.theory.specs.Operation.{pow, multiplication}
+use Rattle.theory.specs.Operation.{multiplication}
 use Rattle.theory.specs.Power.{power}
 use Rattle.theory.proofs.Powers.{pow_0, pow_suc_is}
 use Rattle.theory.proofs.Search.{turn_none, turn_here, turn_later}

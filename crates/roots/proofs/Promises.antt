@@ -1,5 +1,5 @@
 -- The laws over runs, as they follow from the value of a call's answer.
-use Rattle.std.proofs.Common.{◌≡◌, ℕ, ◌≤◌, List, Ok, Err, Result, sym, refl, ap, ◌∙◌, subst}
+use Rattle.std.proofs.Common.{◌≡◌, ℕ, ◌≤◌, List, Ok, Err, Result, sym, ap, ◌∙◌, subst}
 use Rattle.theory.specs.Meaning.{Meaning, Laws}
 use Rattle.refusals.specs.declared.Refusal.{Refusal}
 use Rattle.roots.specs.declared.call.Call.{Call}

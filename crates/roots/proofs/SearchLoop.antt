@@ -1,5 +1,5 @@
 -- The search through the factors and the powers of each ζ, turn by turn.
-use Rattle.std.proofs.Common.{◌≡◌, ℕ, zero, suc, ◌+◌, ◌-◌, ◌*◌, ◌/◌, ◌^◌, ◌<◌, ◌≤◌, Bool, true, false, cond, List, [], ◌∷◌, length, get_or, drop, Some, None, Ok, Err, Option, Result, sym, refl, ap, ◌∙◌, subst, ap₂, arith}
+use Rattle.std.proofs.Common.{◌≡◌, ℕ, ◌+◌, ◌-◌, ◌*◌, ◌/◌, ◌^◌, ◌<◌, ◌≤◌, Bool, true, false, cond, List, ◌∷◌, length, get_or, drop, Some, None, Ok, Err, Option, Result, sym, refl, ap, ◌∙◌, ap₂, arith}
 use Rattle.std.proofs.lemmas.List.{at_drop_more, at_drop_all}
 use Rattle.theory.specs.First.{first}
 use Rattle.theory.specs.Meaning.{Meaning}
@@ -13,7 +13,7 @@ use Rattle.refusals.specs.declared.Layer.TheVariants.{Search}
 use Rattle.refusals.specs.declared.Refusal.{Refusal}
 use Rattle.refusals.specs.declared.Refusal.TheVariants.{Unlawful}
 use Rattle.roots.specs.declared.factor.Factor.{Factor}
-use Rattle.roots.specs.Rooting.{Steps, ended, refused_by, squares_to, turned, matches, searched}
+use Rattle.roots.specs.Rooting.{ended, refused_by, squares_to, turned, matches, searched}
 use Rattle.roots.specs.Steps.{passed_on, counted}
 use Rattle.roots.proofs.OrderLoop.{next_power}
 use Rattle.roots.proofs.Searching.{factor_climb, searched_end, searched_fault, searched_over, searched_missed, searched_matched}

@@ -1,5 +1,5 @@
 -- The tests by which a draft's calls decide.
-use Rattle.std.specs.Prelude.{ℕ, zero, suc, ◌-◌, ◌/◌, ◌%◌, Bool, true, false, ◌&&◌, List, [], ◌∷◌, Some, None, Option, ◌==◌, nat_eq, nat_le}
+use Rattle.std.specs.Prelude.{ℕ, zero, suc, ◌/◌, ◌%◌, Bool, true, false, ◌&&◌, List, [], ◌∷◌, Some, None, Option, ◌==◌, nat_eq, nat_le}
 use Rattle.theory.specs.First.{first}
 use Rattle.theory.specs.Meaning.{Meaning}
 use Rattle.theory.specs.Power.{power}

@@ -1,5 +1,5 @@
 -- What each call on a draft answers, and what the draft then holds.
-use Rattle.std.specs.Prelude.{ℕ, ◌-◌, min, Bool, true, false, cond, not, ◌&&◌, List, [], ◌∷◌, ◌++◌, length, Some, None, Ok, Err, Option, Result, nat_le, nat_lt}
+use Rattle.std.specs.Prelude.{ℕ, ◌-◌, min, Bool, true, false, cond, not, ◌&&◌, [], ◌∷◌, ◌++◌, length, Some, None, Ok, Err, Option, Result, nat_le, nat_lt}
 use Rattle.theory.specs.First.{first_some}
 use Rattle.theory.specs.Meaning.{Meaning}
 use Rattle.theory.specs.Operation.{multiplication}

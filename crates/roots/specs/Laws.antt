@@ -8,7 +8,7 @@ use Rattle.refusals.specs.declared.Refusal.TheVariants.{NoSquare, Unfound}
 use Rattle.roots.specs.declared.call.Call.{Call}
 use Rattle.roots.specs.declared.call.Call.TheVariants.{Adopt, Seek, Give, SeekFourth}
 use Rattle.roots.specs.declared.factor.Factor.{Factor}
-use Rattle.roots.specs.Drafts.{Outcome, answer, sought, sought_fourth}
+use Rattle.roots.specs.Drafts.{answer, sought, sought_fourth}
 use Rattle.roots.specs.Rooting.{Answer, rooted, answered}
 use Rattle.roots.specs.Runs.{step, run, tried}
 use Rattle.roots.specs.State.{State, served, twos, odd, start}

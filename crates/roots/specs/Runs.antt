@@ -1,5 +1,5 @@
 -- Lists of calls on one draft from its start.
-use Rattle.std.specs.Prelude.{ℕ, List, [], ◌∷◌, Ok, Err, Result}
+use Rattle.std.specs.Prelude.{List, [], ◌∷◌, Ok, Err, Result}
 use Rattle.theory.specs.Meaning.{Meaning}
 use Rattle.refusals.specs.declared.Refusal.{Refusal}
 use Rattle.roots.specs.declared.call.Call.{Call}

@@ -1,5 +1,5 @@
 -- What a draft or a plan holds, and how it begins.
-use Rattle.std.specs.Prelude.{◌≡◌, ℕ, zero, suc, ◌-◌, ◌/◌, ◌%◌, ◌^◌, Bool, true, false, List, [], Some, None, Option, ◌==◌}
+use Rattle.std.specs.Prelude.{ℕ, zero, suc, ◌-◌, ◌/◌, ◌%◌, ◌^◌, Bool, true, false, List, [], None, Option, ◌==◌}
 use Rattle.roots.specs.declared.factor.Factor.{Factor}
 
 pub record State : Type 0 where

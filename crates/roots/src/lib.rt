@@ -1,4 +1,6 @@
 // Drafts and plans over any field, and square roots by Sze's method.
+#![tactic(auto)]
+
 mod begin;
 pub mod call;
 mod checks;

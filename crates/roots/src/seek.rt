@@ -15,7 +15,7 @@ use ring::Ring;
 
 // The number of order exactly r before the rank of the ladder from g^u by r, if there is one.
 fn order_from<R: Ring>(ring: &R, r: u64, u: u64, times: u16, g: u64) -> Option<u64>
-    ensures* { λ z. ⌜ z ≡ passing (λ z. order_is (R.Ring.meaning ring.now) z r) (climbed (multiplication (R.Ring.meaning ring.now)) g u r times One) ⌝ }
+    ensures { result ≡ passing (λ z. order_is (R.Ring.meaning ring.now) z r) (climbed (multiplication (R.Ring.meaning ring.now)) g u r times One) }
 {
     let Ok((Some(z), _)) = number_climb(ring, g, u, r, times, Back::One) else {
         return None;

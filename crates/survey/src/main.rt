@@ -1,5 +1,7 @@
 // One task from beginning to end: a field, a draft, its factors and fourth root sought, the plan closed, and marks rooted to places.
 // With no argument it is the day's task, modulo 2,013,265,921; the arguments are another modulus and then marks.
+#![tactic(auto)]
+
 mod words;
 
 use anyhow::anyhow;

@@ -5,7 +5,6 @@ use roots::draft::Draft;
 use roots::factor::Factor;
 use roots::plan::Answer;
 use std::process::Abort;
-use std::test::Fail;
 
 // A call on a draft, in short: adopting takes r, f and ζ, and seeking r and f.
 #[derive(Clone, Copy)]
@@ -44,19 +43,19 @@ fn held<F: Field>(draft: &Draft<F>) -> (u64, Option<u64>, [Option<Factor>; 8]) {
 }
 
 // Each call answers as stated, and a refused one changes nothing; then each mark does.
-pub(crate) fn runs<F: Field + Drop>(rt: &impl Abort, field: F, case: &Case) -> Result<(), Fail> {
+pub(crate) fn runs<F: Field + Drop>(rt: &impl Abort, field: F, case: &Case) {
+    let modulus = case.modulus;
     let mut draft = Draft::start(field);
     for (ask, answer) in case.asks {
         let before = held(&draft);
-        assert_eq!(rt; answered(&mut draft, *ask), *answer);
+        assert_eq!(rt; answered(&mut draft, *ask), *answer, "modulo {modulus}");
         if answer.is_err() {
-            assert_eq!(rt; held(&draft), before);
+            assert_eq!(rt; held(&draft), before, "modulo {modulus}");
         }
     }
     let plan = draft.close();
-    assert_eq!(rt; plan.rest(), case.rest);
+    assert_eq!(rt; plan.rest(), case.rest, "modulo {modulus}");
     for (mark, answer) in case.marks {
-        assert_eq!(rt; plan.root(*mark), *answer, "{}", *mark);
+        assert_eq!(rt; plan.root(*mark), *answer, "modulo {modulus}: {mark}");
     }
-    Ok(())
 }

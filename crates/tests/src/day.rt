@@ -35,5 +35,6 @@ fn marks_through_the_factors(rt: HostRuntime) -> Result<(), Fail> {
         &rt,
         Residues::new(THROUGH_FACTORS.modulus)?,
         &THROUGH_FACTORS,
-    )
+    );
+    Ok(())
 }

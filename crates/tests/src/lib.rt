@@ -1,5 +1,7 @@
 // What the library answers on examples: marks worked by hand, the house table, every refusal at its edges,
 // rings that are no fields, and every mark of small fields against brute force.
+#![tactic(auto)]
+
 #[cfg(test)]
 mod brute;
 #[cfg(test)]

@@ -1,11 +1,11 @@
 -- The ratio group without division: for a mark β = α × α the powers of g : 1 go with the powers of one number h.
-use Rattle.std.proofs.Common.{◌≡◌, ℕ, zero, suc, ◌+◌, ◌/◌, ◌%◌, ◌<◌, true, false, ◌↔◌, sym, refl, ap, ◌∙◌, subst, ap₂, mod-eq_of_lt, arith, eq-eqb, eqb-true}
+use Rattle.std.proofs.Common.{◌≡◌, ℕ, zero, suc, ◌%◌, ◌<◌, true, false, ◌↔◌, sym, refl, ap, ◌∙◌, subst, ap₂, mod-eq_of_lt, arith, eq-eqb, eqb-true}
 use borrow.Author.Tests.{eqb-false}
 use Rattle.theory.specs.Meaning.{Meaning, Laws, Lawful}
 use Rattle.theory.specs.Operation.{pow, ratio, ratios}
-use Rattle.theory.specs.Power.{power, Order}
+use Rattle.theory.specs.Power.{power}
 use Rattle.theory.specs.declared.Ratio.{Ratio}
-use Rattle.theory.proofs.Algebra.{CommRing, IsField, ring_pow, mul_zero, zero_mul, one_mul, neg_zero, neg_mul_neg, no_zero_divisors}
+use Rattle.theory.proofs.Algebra.{CommRing, IsField, ring_pow, mul_zero, zero_mul, one_mul, neg_zero, neg_mul_neg}
 use Rattle.theory.proofs.Codes.{Code, code, code_ring, code_field, code_of_value, code_injective, code_zero, code_one, code_negative, code_product, code_power, code_is_zero, zero_code, power_below, code_rules}
 use Rattle.theory.proofs.RingRatios.{plus_step, minus_step, spent_one, one_spent, plus_some, minus_some, image_not_one, image_minus_one, image_distinct, image_powers, unit_powers, fourth_null, fourth_some, fourth_root, match_root, match_linear, match_square, match_turned}
 

@@ -1,6 +1,6 @@
 -- Ratios x : y over a ring, for a mark β = α × α: the algebra behind Images. The two images of x : y are x + αy and x − αy.
-use Rattle.std.proofs.Common.{◌≡◌, ℕ, zero, suc, ◌+◌, [], ◌∷◌, sym, refl, ap, ◌∙◌, add-suc, suc-add}
-use Rattle.theory.proofs.Algebra.{CommRing, IsField, ring_pow, ring_pow_one, ring_pow_mul, one_mul, no_zero_divisors, unit_cancel, sub_zero}
+use Rattle.std.proofs.Common.{◌≡◌, ℕ, [], ◌∷◌, sym, ap, ◌∙◌}
+use Rattle.theory.proofs.Algebra.{CommRing, IsField, ring_pow, ring_pow_one, ring_pow_mul, no_zero_divisors, unit_cancel, sub_zero}
 use Rattle.theory.proofs.Solver.{solve, quote, by_equation, by_equations}
 
 module _ {R : Type 0} (r : CommRing R) where

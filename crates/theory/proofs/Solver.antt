@@ -11,8 +11,8 @@
 --
 --   by_equation r c h (solve r (x ∷ y ∷ []) (search quote depth 20) tt)
 --
--- It uses: use mathlib.Core.List.{[], _∷_} and use Rattle.theory.proofs.Solver.{solve, quote, by_equation}.
-use Rattle.std.proofs.Common.{◌≡◌, ℕ, zero, suc, ◌+◌, ◌*◌, Bool, true, false, ◌&&◌, T, eqb, List, [], ◌∷◌, sym, refl, ap, ◌∙◌, ap₂, add_zero as nat-add-zero, add-suc, mul_zero as nat-mul-zero, mul-suc, eqb→eq}
+-- It uses: use Rattle.std.specs.Prelude.{[], ◌∷◌} and use Rattle.theory.proofs.Solver.{solve, quote, by_equation}.
+use Rattle.std.proofs.Common.{◌≡◌, ℕ, zero, suc, ◌+◌, ◌*◌, Bool, true, false, ◌&&◌, T, eqb, List, [], ◌∷◌, sym, refl, ap, ◌∙◌, ap₂, add-zero as nat_add_zero, add-suc, mul-zero as nat_mul_zero, mul-suc, eqb→eq}
 use Rattle.theory.proofs.Algebra.{CommRing, zero_add, add_mul, mul_zero, zero_mul, neg_zero, neg_neg, mul_neg, neg_mul, neg_mul_neg, sub_zero, add_swap, neg_only, sub_same}
 
 -- What can be computed with: a coefficient, or a polynomial.
@@ -111,13 +111,13 @@ module _ {R : Type 0} (r : CommRing R) where
 
   nat_add : (a b : ℕ) → nat (a + b) ≡ r.add (nat a) (nat b)
   unfolding nat
-  nat_add a zero = ap nat (nat-add-zero a) ∙ sym (r.add_zero _)
+  nat_add a zero = ap nat (nat_add_zero a) ∙ sym (r.add_zero _)
   nat_add a (suc b) =
       ap nat (add-suc a b) ∙ ap (λ (x : R). r.add x r.one) (nat_add a b) ∙ r.add_assoc _ _ _
 
   nat_mul : (a b : ℕ) → nat (a * b) ≡ r.mul (nat a) (nat b)
   unfolding nat
-  nat_mul a zero = ap nat (nat-mul-zero a) ∙ sym (mul_zero r _)
+  nat_mul a zero = ap nat (nat_mul_zero a) ∙ sym (mul_zero r _)
   nat_mul a (suc b) =
       ap nat (mul-suc a b) ∙ nat_add (a * b) a ∙ ap (λ (x : R). r.add x (nat a)) (nat_mul a b)
       ∙ ap (r.add _) (sym (r.mul_one _)) ∙ sym (r.mul_add _ _ _)

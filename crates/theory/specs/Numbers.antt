@@ -1,5 +1,5 @@
 -- Whole numbers: primes, shared divisors, and the binary digits that a power goes by.
-use Rattle.std.specs.Prelude.{◌≡◌, ℕ, zero, suc, ◌+◌, ◌-◌, ◌*◌, ◌/◌, ◌%◌, ◌<◌, ◌≤◌, ◌⊎◌}
+use Rattle.std.specs.Prelude.{◌≡◌, ℕ, zero, suc, ◌+◌, ◌-◌, ◌*◌, ◌/◌, ◌%◌, ◌<◌, ◌⊎◌}
 
 -- d goes into n
 abbrev pub Divides : ℕ → ℕ → Type 0

@@ -1,4 +1,6 @@
 // Decimal marks on standard input, one a line, become a track on standard output.
+#![tactic(auto)]
+
 mod fault;
 mod layout;
 mod marks;
@@ -8,6 +10,7 @@ use layout::track_bytes;
 use marks::read_marks;
 use std::env;
 use std::io::Write;
+use std::process::ExitCode;
 
 fn refuse_arguments(rt: &HostRuntime) -> Result<(), Fault> {
     let mut words = env::args(rt)?;
@@ -27,10 +30,12 @@ fn run(rt: &HostRuntime) -> Result<(), Fault> {
     Ok(())
 }
 
-fn main(rt: HostRuntime) -> Result<(), Fault> {
-    let result = run(&rt);
-    if let Err(fault) = &result {
-        let _ = eprintln!(rt; "track: {fault}");
+fn main(rt: HostRuntime) -> ExitCode {
+    match run(&rt) {
+        Ok(()) => ExitCode::SUCCESS,
+        Err(fault) => {
+            let _ = eprintln!(rt; "track: {fault}");
+            ExitCode::FAILURE
+        }
     }
-    result
 }

@@ -1,4 +1,4 @@
-use mathlib.Core.Path.{◌≡◌, ◌∙◌}
+use mathlib.Core.Path.{◌∙◌}
 use lib.ListN.{length}
 use Rattle.lists.specs.Calls.{mark_called}
 use Rattle.lists.proofs.Answering.{refused_code}
@@ -9,5 +9,5 @@ returns-in-Err c =
     let call = mark_called c.args.book.now c.args.track.now c.args.number (length c.args.line.now) in
     record {
       value = c.from.ensures ∙ c.number.ensures ∙ refused_code call c.in-Err.why c.in-Err.ensures.value;
-      after = c.mark-line.ensures.after;
+      after = c.mark_line.ensures.after;
     }

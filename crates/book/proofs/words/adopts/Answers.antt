@@ -7,9 +7,9 @@ pub loop-rest-preserved : goal.loop-rest-preserved
 loop-rest-preserved c =
     let rest = c.loop-rest.rest.now in
     let enough : 3 ≤ length rest = search rules in
-    adopt_calls_turn rest (adopt_calls c.args.numbers.now) (vec_items c.loop-rest.calls) (vec_items c.push.new.self) c.in-ok-power.field-0 enough
-    c.in-ok-power.ensures c.in-ok-push.ensures.items c.loop-rest.invariant
+    adopt_calls_turn rest (adopt_calls c.args.numbers.now) (vec_items c.loop-rest.calls) (vec_items c.push.new.self) c.in_ok-power.field-0 enough
+    c.in_ok-power.ensures c.in_ok-push.ensures.items c.loop-rest.invariant
 
 pub returns : goal.returns
 returns c =
-    adopt_calls_all c.loop-rest.rest.now (adopt_calls c.args.numbers.now) (vec_items c.loop-rest.calls) c.in-ok-whole.ensures c.loop-rest.invariant
+    adopt_calls_all c.loop-rest.rest.now (adopt_calls c.args.numbers.now) (vec_items c.loop-rest.calls) c.in_ok-whole.ensures c.loop-rest.invariant

@@ -1,4 +1,4 @@
-use Rattle.std.proofs.Common.{◌≡◌, ℕ, List, ◌++◌, Ok, Err, Result, sym, ap, ◌∙◌, subst, ap₂}
+use Rattle.std.proofs.Common.{◌≡◌, ℕ, Err, Result, sym, ap, ◌∙◌, subst, ap₂}
 use Rattle.std.proofs.lemmas.Result.{err_from_is_err_and}
 use Rattle.theory.specs.Residues.{residues}
 use Rattle.refusals.specs.declared.Refusal.{Refusal}
@@ -13,19 +13,19 @@ use Rattle.books.specs.Loading.{Tries, calls_of, fourth_calls, records}
 use Rattle.books.proofs.Turns.{tries_refused, refused_append}
 use Rattle.books.proofs.load.fill.Goals as goal
 
-pub returns-in-err-adopt-records : goal.returns-in-err-adopt-records
-returns-in-err-adopt-records c =
-    let p = err_from_is_err_and c.from-residual.result c.from-residual.ensures.1 in
+pub returns-in_err-adopt_records : goal.returns-in_err-adopt_records
+returns-in_err-adopt_records c =
+    let p = err_from_is_err_and c.from_residual.result c.from_residual.ensures.1 in
     let b = c.args.book.now in
     let m = residues c.args.draft.now.field.q in
     let s = held_state c.args.draft.now.held in
-    let why = c.in-err-adopt-records.field-0.0 in
+    let why = c.in_err-adopt_records.field-0.0 in
     record {
-      value = tries_refused (tried m s (calls_of b.bytes.now b.count b.fourth)) c.from-residual.result
-          (held_state c.adopt-records.new.draft.held) why (p.1 ∙ ap Err p.2)
+      value = tries_refused (tried m s (calls_of b.bytes.now b.count b.fourth)) c.from_residual.result
+          (held_state c.adopt_records.new.draft.held) why (p.1 ∙ ap Err p.2)
           (refused_append m s (adopting (records b.bytes.now (offset b.count 0) b.count)) (fourth_calls b.fourth) why
-          c.in-err-adopt-records.ensures.value);
-      field = c.adopt-records.ensures.field;
+          c.in_err-adopt_records.ensures.value);
+      field = c.adopt_records.ensures.field;
     }
 
 pub returns : goal.returns
@@ -33,13 +33,13 @@ returns c =
     let b = c.args.book.now in
     let q = c.args.draft.now.field.q in
     let s = held_state c.args.draft.now.held in
-    let t = held_state c.adopt-records.new.draft.held in
+    let t = held_state c.adopt_records.new.draft.held in
     let held = adopting (records b.bytes.now (offset b.count 0) b.count) in
-    let same = ap (λ (f : Residues). f.q) c.adopt-records.ensures.field in
+    let same = ap (λ (f : Residues). f.q) c.adopt_records.ensures.field in
     let root : c.from.result ≡ b.fourth = c.from.ensures ∙ c.fourth.ensures in
     let on = ap₂ (λ (p i : ℕ). tried (residues p) t (fourth_calls i)) same root
-    ∙ sym (tried_append (residues q) s t held (fourth_calls b.fourth) c.in-ok-adopt-records.ensures.value) in
+    ∙ sym (tried_append (residues q) s t held (fourth_calls b.fourth) c.in_ok-adopt_records.ensures.value) in
     record {
-      value = subst (λ (o : Result State Refusal). Tries o c.give-fourth.result (held_state c.give-fourth.new.draft.held)) on c.give-fourth.ensures.value;
-      field = c.give-fourth.ensures.field ∙ c.adopt-records.ensures.field;
+      value = subst (λ (o : Result State Refusal). Tries o c.give_fourth.result (held_state c.give_fourth.new.draft.held)) on c.give_fourth.ensures.value;
+      field = c.give_fourth.ensures.field ∙ c.adopt_records.ensures.field;
     }

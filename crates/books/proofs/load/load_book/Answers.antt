@@ -1,9 +1,8 @@
-use Rattle.std.proofs.Common.{◌≡◌, ℕ, List, Ok, Result, sym, refl, ap, ◌∙◌, subst, ap₂, arith}
-use Rattle.refusals.specs.declared.Refusal.{Refusal}
+use Rattle.std.proofs.Common.{◌≡◌, ℕ, Ok, sym, ap, ◌∙◌, ap₂, arith}
 use Rattle.fields.specs.declared.residues.Residues.{Residues}
 use Rattle.roots.specs.Held.{held_state}
 use Rattle.roots.specs.State.{State}
-use Rattle.books.specs.Loading.{Bound, bound, loaded}
+use Rattle.books.specs.Loading.{bound, loaded}
 use Rattle.books.proofs.Checked.{loaded_runs}
 use Rattle.books.proofs.LoadedWrites.{loaded_writes}
 use Rattle.books.proofs.LoadsTo.{loads_to}
@@ -11,14 +10,14 @@ use Rattle.books.proofs.load.load_book.Goals as goal
 
 comes_to : (c : goal.After-close) → Ok (bound c.close.result) ≡ loaded c.args.bytes.now
 comes_to c =
-    let b = c.in-ok-book.book in
-    let d = c.in-ok-draft.draft in
+    let b = c.in_ok-book.book in
+    let d = c.in_ok-draft.draft in
     let q : c.from.result ≡ b.modulus = c.from.ensures ∙ c.modulus.ensures in
-    let begun = c.in-ok-draft.ensures in
-    let opened = c.in-ok-book.ensures in
+    let begun = c.in_ok-draft.ensures in
+    let opened = c.in_ok-book.ensures in
     let loads = loads_to c.args.bytes.now b.bytes.now c.from.result b.fourth b.count d.field.q (held_state d.held)
     (held_state c.fill.new.draft.held) opened.0
-    (opened.1 ∙ ap (λ (x : ℕ). Ok (record { modulus = x; fourth = b.fourth; count = b.count })) (sym q)) begun.0 begun.1 begun.2 c.in-ok-fill.ensures.value in
+    (opened.1 ∙ ap (λ (x : ℕ). Ok (record { modulus = x; fourth = b.fourth; count = b.count })) (sym q)) begun.0 begun.1 begun.2 c.in_ok-fill.ensures.value in
     let over = ap (λ (f : Residues). f.q) (c.close.ensures.field ∙ c.fill.ensures.field) ∙ begun.1 in
     ap₂ (λ (p : ℕ) (s : State). Ok (p, s)) over c.close.ensures.value ∙ sym loads
 
@@ -26,5 +25,5 @@ pub returns : goal.returns
 returns c = record {
   value = comes_to c;
   reached = loaded_runs c.args.bytes.now c.close.result.field.q (held_state c.close.result.held) (sym (comes_to c));
-  back = loaded_writes c.args.bytes.now (λ i. omega (arith, c.type-inv.bytes i)) c.close.result.field.q (held_state c.close.result.held) (sym (comes_to c));
+  back = loaded_writes c.args.bytes.now (λ i. omega (arith, c.type_inv.bytes i)) c.close.result.field.q (held_state c.close.result.held) (sym (comes_to c));
 }

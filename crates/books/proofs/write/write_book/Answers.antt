@@ -1,9 +1,8 @@
-use Rattle.std.proofs.Common.{◌≡◌, ℕ, ◌+◌, ◌*◌, ◌≤◌, true, List, length, take, Ok, Result, sym, ap, ◌∙◌, subst, arith}
-use Rattle.refusals.specs.declared.Refusal.{Refusal}
+use Rattle.std.proofs.Common.{◌≡◌, ℕ, ◌+◌, ◌*◌, ◌≤◌, true, List, length, take, Ok, sym, ap, ◌∙◌, arith}
 use Rattle.fields.specs.declared.residues.Residues.{Residues}
 use Rattle.roots.specs.Held.{held_state}
 use Rattle.roots.specs.State.{served}
-use Rattle.octets.specs.Buffers.{held, laid_over}
+use Rattle.octets.specs.Buffers.{held}
 use Rattle.books.specs.Loading.{loaded}
 use Rattle.books.proofs.WritesBook.{write_value, write_after, write_loads}
 use Rattle.books.proofs.write.write_book.Goals as goal
@@ -14,17 +13,17 @@ returns c =
     let q = plan.field.q in
     let s = held_state plan.held in
     let out = c.args.out.now in
-    let buffer = held c.book-bytes-buffer.result in
+    let buffer = held c.book_bytes-buffer.result in
     let size : c.size.result ≡ q = c.size.ensures ∙ ap (λ (r : Residues). r.q) c.field.ensures in
-    let serves : served q ≡ true = ap served (sym size) ∙ sym c.if-not-is-served.ensures in
+    let serves : served q ≡ true = ap served (sym size) ∙ sym c.if-not-is_served.ensures in
     let room : 16 + 12 * length s.factors ≤ length out = omega (arith, c.if-out-factors.false, ap length c.factors.ensures) in
-    let is = c.book-bytes-buffer.ensures in
-    let slice = c.as-slice.ensures in
+    let is = c.book_bytes-buffer.ensures in
+    let slice = c.as_slice.ensures in
     record {
       value = ap (λ (b : List ℕ). Ok (length b)) slice ∙ write_value q s out buffer serves room is;
-      after = c.lay-over.ensures ∙ write_after q s out buffer serves room is;
+      after = c.lay_over.ensures ∙ write_after q s out buffer serves room is;
       loads = λ calls made n e.
-          ap (λ (b : List ℕ). loaded (take n b)) c.lay-over.ensures
+          ap (λ (b : List ℕ). loaded (take n b)) c.lay_over.ensures
           ∙ write_loads q s out buffer serves room is plan.field.low plan.field.high calls made n
           (ap (λ (b : List ℕ). Ok (length b)) (sym slice) ∙ e);
     }

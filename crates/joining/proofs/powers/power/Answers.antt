@@ -7,13 +7,13 @@ returns-then-k-eq0 g c = nothing _ _ _ _ c.if-k-eq0.true c.neutral.ensures
 
 pub loop-place-init : goal.loop-place-init
 loop-place-init g c =
-    let top = c.ilog2-place.ensures in starts _ _ _ _ _ top.power_le top.next-power-gt c.reduced-result.ensures
+    let top = c.ilog2-place.ensures in starts _ _ _ _ _ top.power_le top.next_power_gt c.reduced-result.ensures
 
-pub overflow-add-count : goal.overflow-add-count
-overflow-add-count g c = omega (arith, few_so_far _ _ _ _ _ _ c.loop-place.invariant)
+pub overflow_add-count : goal.overflow_add-count
+overflow_add-count g c = omega (arith, few_so_far _ _ _ _ _ _ c.loop-place.invariant)
 
-pub overflow-add-count-then-k-place-eq1 : goal.overflow-add-count-then-k-place-eq1
-overflow-add-count-then-k-place-eq1 g c = omega (arith, few_so_far _ _ _ _ _ _ c.loop-place.invariant)
+pub overflow_add-count-then-k-place-eq1 : goal.overflow_add-count-then-k-place-eq1
+overflow_add-count-then-k-place-eq1 g c = omega (arith, few_so_far _ _ _ _ _ _ c.loop-place.invariant)
 
 pub loop-place-preserved-then-k-place-eq1 : goal.loop-place-preserved-then-k-place-eq1
 loop-place-preserved-then-k-place-eq1 g c =

@@ -1,7 +1,6 @@
-use Rattle.std.proofs.Common.{◌≡◌, ℕ, ◌<◌, List, [], Result, sym, ap, ◌∙◌, ap₂}
+use Rattle.std.proofs.Common.{◌≡◌, ℕ, List, [], Result, sym, ap, ◌∙◌, ap₂}
 use Rattle.theory.specs.Residues.{residues}
 use Rattle.refusals.specs.declared.Refusal.{Refusal}
-use Rattle.roots.specs.Held.{held_state}
 use Rattle.roots.specs.Rooting.{Answer, rooted, answered}
 use Rattle.octets.specs.Buffers.{joined}
 use Rattle.books.specs.Loading.{bound, loaded}
@@ -15,14 +14,14 @@ pub returns : goal.returns
 returns c =
     let track = c.args.track.now in
     let k = c.args.number in
-    let p = bound c.in-ok-plan.plan in
-    let t = c.in-ok-marks.marks in
-    let opens = c.in-ok-marks.ensures in
+    let p = bound c.in_ok-plan.plan in
+    let t = c.in_ok-marks.marks in
+    let opens = c.in_ok-marks.ensures in
     let found = mark_found track t.count k c.in-Some.mark (c.in-Some.ensures ∙ ap (λ (b : List ℕ). mark_in b t.count k) opens.0) in
     let mark : c.from-mark.result ≡ mark_at track k = c.from-mark.ensures ∙ found.1 in
     let root : c.root.result ≡ answered (rooted (residues p.0) p.1 (mark_at track k)) =
     c.root.ensures.value ∙ ap (λ (m : ℕ). answered (rooted (residues p.0) p.1 m)) mark in (
       rooted_text p k (mark_at track k),
-      lined_at (loaded c.args.book.now) (tracked track) track p t.count k (sym c.in-ok-plan.ensures.value) opens.1 found.0,
-      c.text_of_mark.ensures ∙ ap₂ (λ (m : ℕ) (r : Result Answer Refusal). joined [] (text_of_mark k m r)) mark root,
+      lined_at (loaded c.args.book.now) (tracked track) track p t.count k (sym c.in_ok-plan.ensures.value) opens.1 found.0,
+      c.mark_text.ensures ∙ ap₂ (λ (m : ℕ) (r : Result Answer Refusal). joined [] (text_of_mark k m r)) mark root,
     )

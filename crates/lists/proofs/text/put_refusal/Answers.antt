@@ -1,4 +1,4 @@
-use Rattle.std.proofs.Common.{ℕ, List, ◌++◌, codes, sym, ap, ◌∙◌}
+use Rattle.std.proofs.Common.{ℕ, ◌++◌, codes, sym, ap, ◌∙◌}
 use Rattle.refusals.specs.Number.{numbered}
 use Rattle.refusals.specs.declared.Refusal.{Refusal}
 use Rattle.octets.specs.Buffers.{held, joined}

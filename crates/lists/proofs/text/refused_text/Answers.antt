@@ -1,4 +1,4 @@
-use Rattle.std.proofs.Common.{ℕ, List, [], sym, ap, ◌∙◌}
+use Rattle.std.proofs.Common.{ℕ, List, ap, ◌∙◌}
 use Rattle.refusals.specs.Number.{numbered}
 use Rattle.octets.specs.Buffers.{held, joined}
 use Rattle.octets.proofs.Joined.{joined_two}

@@ -4,18 +4,18 @@ use Rattle.nine_laws.proofs.NineLaws.{nine_lawful}
 use Rattle.nine_laws.specs.Nine.{sums}
 use Rattle.nine.proofs.Nine.new.Goals as goal
 
-pub returns-in-err-table : goal.returns-in-err-table
-returns-in-err-table c = record { made = search rules; lawful = nine_lawful }
+pub returns-in_err-table : goal.returns-in_err-table
+returns-in_err-table c = record { made = search rules; lawful = nine_lawful }
 
 -- The rows one after another are the table.
-pub invariant-of-result : goal.invariant-of-result
+pub invariant_of-result : goal.invariant_of-result
 unfolding sums
-invariant-of-result c =
-    (same_from_all_zip (λ x y. y ≡ x) sums _ c.in-ok-table.ensures.ok (λ x y same. same), tt)
+invariant_of-result c =
+    record { holds = same_from_all_zip (λ x y. y ≡ x) sums _ c.in_ok-table.ensures.ok (λ x y same. same) }
 
 pub returns : goal.returns
 unfolding sums
 returns c = record {
-  made = same_from_all_zip (λ x y. y ≡ x) sums _ c.in-ok-table.ensures.ok (λ x y same. same);
+  made = same_from_all_zip (λ x y. y ≡ x) sums _ c.in_ok-table.ensures.ok (λ x y same. same);
   lawful = nine_lawful;
 }

@@ -16,14 +16,14 @@ pub returns-then-not-spent : goal.returns-then-not-spent
 returns-then-not-spent g c = record {
   value =
       begins_kept (g.R.Ring.meaning c.args.ring.now) _ _ _ _ c.loop-g-test.true c.loop-g.invariant _ _ _ c.product.ensures c.if-product-mark.false
-      c.is-spent-at-spent.ensures.count c.is-spent-at-spent.ensures.value c.if-not-spent.true;
-  few = omega (arith, c.loop-g.invariant.few, c.is-spent-at-spent.ensures.few);
+      c.is_spent_at-spent.ensures.count c.is_spent_at-spent.ensures.value c.if-not-spent.true;
+  few = omega (arith, c.loop-g.invariant.few, c.is_spent_at-spent.ensures.few);
 }
 
 pub loop-g-preserved : goal.loop-g-preserved
 loop-g-preserved g c =
     begins_turn (g.R.Ring.meaning c.args.ring.now) _ _ _ _ c.loop-g-test.true c.loop-g.invariant _ _ _ c.product.ensures c.if-product-mark.false
-    c.is-spent-at-spent.ensures.count c.is-spent-at-spent.ensures.value c.if-not-spent.false c.is-spent-at-spent.ensures.few
+    c.is_spent_at-spent.ensures.count c.is_spent_at-spent.ensures.value c.if-not-spent.false c.is_spent_at-spent.ensures.few
 
 pub returns : goal.returns
 returns g c = record {

@@ -1,5 +1,5 @@
 use Rattle.std.proofs.Common.{arith}
-use Rattle.roots.proofs.DivideLoops.{Gone, goes_starts, goes_turn, goes_stops, goes_ends}
+use Rattle.roots.proofs.DivideLoops.{goes_starts, goes_turn, goes_stops, goes_ends}
 use Rattle.roots.proofs.divide.parted.Goals as goal
 
 pub loop-times-init : goal.loop-times-init

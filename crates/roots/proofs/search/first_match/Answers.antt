@@ -2,46 +2,46 @@ use Rattle.std.proofs.Common.{cond, Ok, Err, sym, ap, ◌∙◌, arith}
 use Rattle.std.proofs.lemmas.Result.{err_from_is_err_and}
 use Rattle.theory.proofs.Search.{some_apart}
 use Rattle.roots.proofs.Rows.{small_at, no_factor}
-use Rattle.roots.proofs.SearchLoop.{searches_start, searches_fault, searches_over, searches_missed, searches_matched, searches_end, answers_match, answers_none, tries_start, tries_turn, tries_match, tries_end}
+use Rattle.roots.proofs.SearchLoop.{searches_fault, searches_over, searches_missed, searches_matched, searches_end, answers_match, answers_none, tries_start, tries_turn, tries_match, tries_end}
 use Rattle.roots.proofs.search.first_match.Goals as goal
-use Rattle.roots.proofs.search.first_match.Goals.{else-loop-j-test, then-loop-j-test+else-matches-mark+else·-j-j·end, then-loop-factor-test+in-ok-rung+in-Some+then-loop-j-test+then-matches-mark, else-loop-factor-test}
+use Rattle.roots.proofs.search.first_match.Goals.{else-loop-j-test, then-loop-j-test+else-matches_mark+else-j-j-end, then-loop-factor-test+in_ok-rung+in-Some+then-loop-j-test+then-matches_mark, else-loop-factor-test}
 
-pub factor-rung-requires : goal.factor-rung-requires
-factor-rung-requires g c =
+pub factor_rung-requires : goal.factor_rung-requires
+factor_rung-requires g c =
     omega (arith, (small_at c.args.factors.now c.loop-factor.factor-index no_factor c.requires.1.0 c.loop-factor-test.true).low)
 
-pub returns-in-err-rung : goal.returns-in-err-rung
-returns-in-err-rung g c =
-    let p = err_from_is_err_and c.from-residual.result c.from-residual.ensures.1 in
+pub returns-in_err-rung : goal.returns-in_err-rung
+returns-in_err-rung g c =
+    let p = err_from_is_err_and c.from_residual.result c.from_residual.ensures.1 in
     p.1 ∙ ap Err p.2
-    ∙ searches_fault _ _ _ _ _ _ _ _ _ _ c.loop-factor-test.true c.loop-factor.invariant _ c.in-err-rung.ensures.value
+    ∙ searches_fault _ _ _ _ _ _ _ _ _ _ c.loop-factor-test.true c.loop-factor.invariant _ c.in_err-rung.ensures.value
 
-pub loop-factor-preserved-in-default : goal.loop-factor-preserved-in-default
-loop-factor-preserved-in-default g c =
+pub loop-factor-preserved-in_default : goal.loop-factor-preserved-in_default
+loop-factor-preserved-in_default g c =
     searches_over _ _ _ _ _ _ _ _ _ _ c.loop-factor-test.true c.loop-factor.invariant _
-    (sym (ap (λ o. Ok (o, c.in-ok-rung.climbing)) c.in-default.is) ∙ c.in-ok-rung.ensures.value) c.in-ok-rung.ensures.few
+    (sym (ap (λ o. Ok (o, c.in_ok-rung.climbing)) c.in_default.is) ∙ c.in_ok-rung.ensures.value) c.in_ok-rung.ensures.few
 
 pub loop-j-init : goal.loop-j-init
 loop-j-init g c = tries_start _ _ _ _ _ _
 
-pub overflow-add-tests : goal.overflow-add-tests
-overflow-add-tests g c =
+pub overflow_add-tests : goal.overflow_add-tests
+overflow_add-tests g c =
     let small = small_at c.args.factors.now c.loop-factor.factor-index no_factor c.requires.1.0 c.loop-factor-test.true in
     omega (arith, c.loop-j.invariant.count, c.loop-factor.invariant.few_tests, small.high)
 
 pub loop-j-preserved : goal.loop-j-preserved
 loop-j-preserved g c =
-    tries_turn _ _ _ _ _ _ _ _ _ _ _ (omega (arith, c.loop-j-test.true)) c.loop-j.invariant c.product-z.ensures c.turn-ratio.ensures c.if-matches-mark.ensures
+    tries_turn _ _ _ _ _ _ _ _ _ _ _ (omega (arith, c.loop-j-test.true)) c.loop-j.invariant c.product-z.ensures c.turn-ratio.ensures c.if-matches_mark.ensures
 
 pub loop-factor-preserved : goal.loop-factor-preserved
 loop-factor-preserved g c =
     let small = small_at c.args.factors.now c.loop-factor.factor-index no_factor c.requires.1.0 c.loop-factor-test.true in
     searches_missed _ _ _ _ _ _ _ _ _ _ c.loop-factor-test.true c.loop-factor.invariant _ _ _
-    (sym (ap (λ o. Ok (o, c.in-ok-rung.climbing)) c.in-Some.is) ∙ c.in-ok-rung.ensures.value) c.in-ok-rung.ensures.few small.high
+    (sym (ap (λ o. Ok (o, c.in_ok-rung.climbing)) c.in-Some.is) ∙ c.in_ok-rung.ensures.value) c.in_ok-rung.ensures.few small.high
     (elim c.loop-j-test.branch [
-      | else-loop-j-test w ↦ absurd (omega (arith, small.low, c.loop-j.auto.-j-end, w.loop-j-test.false))
-      | then-loop-j-test+else-matches-mark+else·-j-j·end w ↦
-          let on = tries_turn _ _ _ _ _ _ _ _ _ _ _ (omega (arith, w.loop-j-test.true)) c.loop-j.invariant w.product-z.ensures w.turn-ratio.ensures w.if-matches-mark.ensures in
+      | else-loop-j-test w ↦ absurd (omega (arith, small.low, c.loop-j.auto._j-end, w.loop-j-test.false))
+      | then-loop-j-test+else-matches_mark+else-j-j-end w ↦
+          let on = tries_turn _ _ _ _ _ _ _ _ _ _ _ (omega (arith, w.loop-j-test.true)) c.loop-j.invariant w.product-z.ensures w.turn-ratio.ensures w.if-matches_mark.ensures in
           let ends = tries_end _ _ _ _ _ _ _ _ _ (omega arith) (omega (arith, w.loop-j-test.true)) on in
           (ends.0, w.tests-is ∙ ends.1)
     ])
@@ -49,18 +49,18 @@ loop-factor-preserved g c =
 pub returns-in-Some-found : goal.returns-in-Some-found
 returns-in-Some-found g c =
     elim c.loop-factor-test.branch [
-      | then-loop-factor-test+in-ok-rung+in-Some+then-loop-j-test+then-matches-mark w ↦
-          let hit = tries_match _ _ _ _ _ _ _ _ _ _ _ (omega (arith, w.loop-j-test.true)) w.loop-j.invariant w.product-z.ensures w.turn-ratio.ensures w.if-matches-mark.ensures in
-          answers_match _ _ _ _ _ _ _ _ _ _ _ _ w.found-is c.in-Some-found.is w.tests-is w.joinings_is
+      | then-loop-factor-test+in_ok-rung+in-Some+then-loop-j-test+then-matches_mark w ↦
+          let hit = tries_match _ _ _ _ _ _ _ _ _ _ _ (omega (arith, w.loop-j-test.true)) w.loop-j.invariant w.product-z.ensures w.turn-ratio.ensures w.if-matches_mark.ensures in
+          answers_match _ _ _ _ _ _ _ _ _ _ _ _ w.found-is c.in-Some-found.is w.tests-is w.joinings-is
           (searches_matched _ _ _ _ _ _ no_factor _ _ _ w.loop-factor-test.true c.loop-factor.invariant _ _ _ _
-          (sym (ap (λ o. Ok (o, w.in-ok-rung.climbing)) w.in-Some.is) ∙ w.in-ok-rung.ensures.value) hit)
+          (sym (ap (λ o. Ok (o, w.in_ok-rung.climbing)) w.in-Some.is) ∙ w.in_ok-rung.ensures.value) hit)
       | else-loop-factor-test w ↦ absurd (some_apart _ (sym c.in-Some-found.is ∙ w.found-is))
     ]
 
 pub returns-then-served : goal.returns-then-served
 returns-then-served g c =
     elim c.loop-factor-test.branch [
-      | then-loop-factor-test+in-ok-rung+in-Some+then-loop-j-test+then-matches-mark w ↦ absurd (some_apart _ (sym w.found-is ∙ c.in-None.is))
+      | then-loop-factor-test+in_ok-rung+in-Some+then-loop-j-test+then-matches_mark w ↦ absurd (some_apart _ (sym w.found-is ∙ c.in-None.is))
       | else-loop-factor-test w ↦
           answers_none _ _ _ _ _ _ _ _ _ w.served-is (ap (λ b. cond b 5 4) c.if-served.true)
           (searches_end _ _ _ _ _ _ _ _ _ w.loop-factor-test.false c.loop-factor.invariant)
@@ -69,7 +69,7 @@ returns-then-served g c =
 pub returns-else-served : goal.returns-else-served
 returns-else-served g c =
     elim c.loop-factor-test.branch [
-      | then-loop-factor-test+in-ok-rung+in-Some+then-loop-j-test+then-matches-mark w ↦ absurd (some_apart _ (sym w.found-is ∙ c.in-None.is))
+      | then-loop-factor-test+in_ok-rung+in-Some+then-loop-j-test+then-matches_mark w ↦ absurd (some_apart _ (sym w.found-is ∙ c.in-None.is))
       | else-loop-factor-test w ↦
           answers_none _ _ _ _ _ _ _ _ _ w.served-is (ap (λ b. cond b 5 4) c.if-served.false)
           (searches_end _ _ _ _ _ _ _ _ _ w.loop-factor-test.false c.loop-factor.invariant)

@@ -4,7 +4,7 @@ use Rattle.roots.proofs.search.first_match.Given as goal
 
 abbrev pub invariant-loop-j : goal.invariant-loop-j
 invariant-loop-j g l =
-    TriesOn (g.R.Ring.meaning l.ring) l.mark l.e l.factor.zeta (l.factor.r / 2) l.-j l.z l.tests l.initial.tests
+    TriesOn (g.R.Ring.meaning l.ring) l.mark l.e l.factor.zeta (l.factor.r / 2) l._j l.z l.tests l.initial.tests
 
 abbrev pub invariant-loop-factor : goal.invariant-loop-factor
 invariant-loop-factor g l =

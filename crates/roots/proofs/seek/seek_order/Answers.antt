@@ -13,7 +13,7 @@ returns-in-Some g c =
 pub loop-g-preserved : goal.loop-g-preserved
 loop-g-preserved g c =
     seeks_later _ _ _ _ c.loop-g-test.true
-    (c.in-default.ensures ∙ leads_by (g.R.Ring.meaning c.args.ring.now) _ _ _ _ _ c.size-size.ensures c.parted-u.ensures.left c.parted-u.ensures.times) c.loop-g.invariant
+    (c.in_default.ensures ∙ leads_by (g.R.Ring.meaning c.args.ring.now) _ _ _ _ _ c.size-size.ensures c.parted-u.ensures.left c.parted-u.ensures.times) c.loop-g.invariant
 
 pub returns : goal.returns
 returns g c = seeks_end _ _ _ _ c.loop-g-test.false c.loop-g.invariant

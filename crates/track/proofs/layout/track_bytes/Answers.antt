@@ -6,8 +6,8 @@ use Rattle.track.proofs.layout.track_bytes.Goals as goal
 pub loop-mark-preserved : goal.loop-mark-preserved
 loop-mark-preserved c =
     let marks = c.args.marks.now in
-    mark_turn (track_of marks) marks (vec_items c.loop-mark.bytes) (vec_items c.put-word-in-loop-mark.new.bytes) c.loop-mark.mark-index c.from.result
-    c.loop-mark-test.true c.from.ensures c.in-ok-put-word-3.ensures c.loop-mark.invariant
+    mark_turn (track_of marks) marks (vec_items c.loop-mark.bytes) (vec_items c.put_word-in-loop-mark.new.bytes) c.loop-mark.mark-index c.from.result
+    c.loop-mark-test.true c.from.ensures c.in_ok-put_word-3.ensures c.loop-mark.invariant
 
 pub returns : goal.returns
 returns c =

@@ -5,5 +5,5 @@ use Rattle.books.proofs.book.Book.factor.Goals as goal
 
 pub returns : goal.returns
 returns c =
-    c.read-record.ensures
+    c.read_record.ensures
     ∙ read_shift c.args.self.now.bytes.now (offset c.args.self.now.count c.args.k) c.if-self-at.false

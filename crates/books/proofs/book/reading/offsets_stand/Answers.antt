@@ -1,4 +1,4 @@
-use Rattle.std.proofs.Common.{◌≡◌, ◌+◌, ◌*◌, sym, ◌∙◌}
+use Rattle.std.proofs.Common.{◌+◌, ◌*◌, sym, ◌∙◌}
 use Rattle.books.proofs.OffsetLoop.{word_found, stands_on, stands_not, stands_all}
 use Rattle.books.proofs.book.reading.offsets_stand.Goals as goal
 

@@ -11,7 +11,7 @@ loop-k-preserved c =
     let found = mark_found t.bytes.now t.count k c.in-Some.mark (c.in-Some.ensures ∙ ap (λ (n : ℕ). mark_in t.bytes.now t.count n) c.from.ensures) in
     c.loop-k.invariant
     ∙ taken_on t.bytes.now (vec_items c.loop-k.marks) (vec_items c.push.new.self) t.count k c.in-Some.mark found.0 found.1
-    c.in-ok-push.ensures.items
+    c.in_ok-push.ensures.items
 
 pub returns : goal.returns
 returns c = λ whole.

@@ -6,8 +6,8 @@ pub returns : goal.returns
 returns g c =
     let field = c.args.self.now.field in
     record {
-      value = c.take-sought.ensures.value;
-      after = c.take-sought.ensures.after;
+      value = c.take_sought.ensures.value;
+      after = c.take_sought.ensures.after;
       field = refl;
-      finds = seek_finds (g.F.Ring.meaning field) (g.F.Ring.laws field) _ _ _ _ c.take-sought.ensures.value;
+      finds = seek_finds (g.F.Ring.meaning field) (g.F.Ring.laws field) _ _ _ _ c.take_sought.ensures.value;
     }

@@ -6,8 +6,8 @@ pub returns : goal.returns
 returns g c =
     let field = c.args.self.now.field in
     record {
-      value = c.set-sought.ensures.value;
-      after = c.set-sought.ensures.after;
+      value = c.set_sought.ensures.value;
+      after = c.set_sought.ensures.after;
       field = refl;
-      finds = seek_fourth_finds (g.F.Ring.meaning field) (g.F.Ring.laws field) _ _ c.set-sought.ensures.value;
+      finds = seek_fourth_finds (g.F.Ring.meaning field) (g.F.Ring.laws field) _ _ c.set_sought.ensures.value;
     }

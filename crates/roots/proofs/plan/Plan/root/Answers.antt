@@ -5,6 +5,6 @@ pub returns : goal.returns
 returns g c =
     let field = c.args.self.now.field in
     record {
-      value = c.root-mark.ensures;
-      laws = root_laws (g.F.Ring.meaning field) (g.F.Ring.laws field) _ _ _ c.root-mark.ensures;
+      value = c.root_mark.ensures;
+      laws = root_laws (g.F.Ring.meaning field) (g.F.Ring.laws field) _ _ _ c.root_mark.ensures;
     }

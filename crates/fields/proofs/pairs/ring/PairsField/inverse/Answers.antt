@@ -3,8 +3,8 @@ use Rattle.fields.proofs.Conjugates.{conjugate_found, conjugate_none}
 use Rattle.fields.proofs.Reduced.{product_le, square_fits}
 use Rattle.fields.proofs.pairs.ring.PairsField.inverse.Goals as goal
 
-pub overflow-add-x : goal.overflow-add-x
-overflow-add-x c =
+pub overflow_add-x : goal.overflow_add-x
+overflow_add-x c =
     omega (
       arith,
       product_le _ _ _ _ _ c.args.self.now.low c.real-x.ensures c.real-x.ensures,

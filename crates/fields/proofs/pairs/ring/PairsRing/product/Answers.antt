@@ -16,11 +16,11 @@ bounds c =
       product_le _ _ _ _ _ low c.imaginary-y.ensures c.imaginary-w.ensures,
     )
 
-pub overflow-sub-self : goal.overflow-sub-self
-overflow-sub-self c = omega (arith, bounds c)
+pub overflow_sub-self : goal.overflow_sub-self
+overflow_sub-self c = omega (arith, bounds c)
 
-pub overflow-add-x : goal.overflow-add-x
-overflow-add-x c = omega (arith, bounds c, square_fits _ c.args.self.now.high)
+pub overflow_add-x : goal.overflow_add-x
+overflow_add-x c = omega (arith, bounds c, square_fits _ c.args.self.now.high)
 
-pub overflow-add-x-2 : goal.overflow-add-x-2
-overflow-add-x-2 c = omega (arith, bounds c, square_fits _ c.args.self.now.high)
+pub overflow_add-x-2 : goal.overflow_add-x-2
+overflow_add-x-2 c = omega (arith, bounds c, square_fits _ c.args.self.now.high)
