@@ -7,8 +7,7 @@ inputs=${1:-4000}
 work=$(mktemp -d)
 trap 'rm -rf "$work"' EXIT
 
-rt check place book track
-rt staticlib pomyrasei
+bash tools/build place book track pomyrasei
 library=target/staticlib/libpomyrasei.a
 
 compile() { gcc -std=c11 -O2 -Wall -Wextra -Werror -Iinclude "$@"; }

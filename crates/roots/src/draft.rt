@@ -65,7 +65,7 @@ impl<F: Field> Draft<F> {
         if r < 2 {
             return 0;
         }
-        let (_, times) = parted(r, self.held.rest());
+        let (_, times) = parted(r, self.rest());
         times
     }
 
