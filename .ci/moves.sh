@@ -6,15 +6,14 @@ cd "$(dirname "$0")/.."
 work=$(mktemp -d)
 trap 'rm -rf "$work"' EXIT
 cp -r crates crates.txt "$work"
-if [ -d target ]; then cp -r target "$work"; fi
 mkdir -p "$work/crates/moves/src"
 echo 'moves: theory refusals ring fields joining roots' >> "$work/crates.txt"
 source="$work/crates/moves/src/lib.rt"
 
 cat > "$work/right" <<'RATTLE'
+#![tactic(auto)]
+
 use fields::Residues;
-use fields::ResiduesField;
-use fields::ResiduesRing;
 use roots::Draft;
 
 pub fn place(field: Residues, root: u64, mark: u64) -> u64 {
@@ -28,7 +27,7 @@ pub fn place(field: Residues, root: u64, mark: u64) -> u64 {
 }
 RATTLE
 
-check() { (cd "$work" && rt check moves) > "$work/log" 2>&1; }
+check() { (cd "$work/crates/moves" && rt check) > "$work/log" 2>&1; }
 
 refused() { # what it shows, the reason, the old text, the new text
     sed "s/$3/$4/" "$work/right" > "$source"
