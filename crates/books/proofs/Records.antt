@@ -1,6 +1,6 @@
 -- The records of a book, as they are written and as they are read.
 use Rattle.std.proofs.Common.{◌≡◌, ℕ, zero, suc, ◌+◌, ◌*◌, ◌^◌, ◌<◌, ◌≤◌, List, [], ◌∷◌, ◌++◌, length, drop, refl, ap, ◌∙◌, arith}
-use Rattle.std.specs.List.{AllByRecursion as All}
+use Rattle.std.specs.List.{AllByRecursion}
 use Rattle.roots.specs.declared.factor.Factor.{Factor}
 use Rattle.roots.specs.Drafts.{factor}
 use Rattle.octets.specs.Words.{word, half, word_at, half_at}
@@ -44,7 +44,7 @@ module _ (book : List ℕ) (at : ℕ) (h : Factor) (rest : List ℕ) (stands : d
       let same : record_at book at ≡ factor h.r h.f h.zeta = cc in
       same
 
-pub records_read : (book : List ℕ) (at : ℕ) (held : List Factor) → All Recorded held → drop at book ≡ records_bytes held → records book at (length held) ≡ held
+pub records_read : (book : List ℕ) (at : ℕ) (held : List Factor) → AllByRecursion Recorded held → drop at book ≡ records_bytes held → records book at (length held) ≡ held
 unfolding records records_bytes
 records_read book at [] fits stands = refl
 records_read book at (h ∷ held) fits stands =

@@ -2,7 +2,7 @@
 use Rattle.std.proofs.Common.{◌≡◌, ℕ, zero, suc, ◌+◌, ◌*◌, ◌^◌, ◌<◌, ◌≤◌, true, not, ◌||◌, eqb, ltb, leb, List, [], ◌∷◌, ◌++◌, length, drop, Some, None, Ok, Option, sym, refl, ap, ◌∙◌, arith, length-append}
 use Rattle.std.proofs.lemmas.List.{drop-drop, drop_at}
 use Rattle.std.proofs.lemmas.Bool.{not_from_true, le-ltb, le-leb, eq-eqb, and_from, or_from}
-use Rattle.std.specs.List.{AllByRecursion as All}
+use Rattle.std.specs.List.{AllByRecursion}
 use Rattle.theory.specs.Meaning.{Laws}
 use Rattle.theory.specs.Residues.{residues}
 use Rattle.theory.proofs.ResidueLaws.{residues_laws_31}
@@ -48,7 +48,7 @@ module _ (q i : ℕ) (held : List Factor) (few : length held ≤ 8) where
       (and_from (eqb (length (headed q i held)) (16 + 12 * n)) _ (eq-eqb _ _ headed_length)
       (offsets_read (headed q i held) n 0 n (records_bytes held) few (omega arith) refl))
 
-  headed_records : All Recorded held → records (headed q i held) (offset (length held) 0) (length held) ≡ held
+  headed_records : AllByRecursion Recorded held → records (headed q i held) (offset (length held) 0) (length held) ≡ held
   headed_records fits =
       let n = length held in
       let place : offset n 0 ≡ 16 + 4 * n = omega arith in
@@ -83,7 +83,7 @@ fourth_small q None some below = some
 fourth_small q (Some i) some below = below i refl
 
 -- what a run holds fits the bytes of a record
-all_recorded : (q : ℕ) (held : List Factor) → q ≤ 2147483647 → All (λ (h : Factor). (h.r ≤ 4095) × (h.f < 2 ^ 16) × (h.zeta < q)) held → All Recorded held
+all_recorded : (q : ℕ) (held : List Factor) → q ≤ 2147483647 → AllByRecursion (λ (h : Factor). (h.r ≤ 4095) × (h.f < 2 ^ 16) × (h.zeta < q)) held → AllByRecursion Recorded held
 all_recorded q [] high fits = tt
 all_recorded q (h ∷ held) high fits =
     let first = fits.0 in

@@ -1,6 +1,6 @@
 -- Which residues and which pairs are lawful fields.
 use Rattle.std.specs.Prelude.{◌≡◌, ℕ, ◌%◌, ◌≤◌, List}
-use Rattle.std.specs.List.{AllByRecursion as All}
+use Rattle.std.specs.List.{AllByRecursion}
 use Rattle.theory.specs.Meaning.{Lawful}
 use Rattle.theory.specs.Numbers.{Prime}
 use Rattle.theory.specs.Pairs.{pairs}
@@ -18,4 +18,4 @@ PairsLawful least greatest remainder =
 
 -- The residues modulo each of the numbers are lawful.
 pub record EachLawful (moduli : List ℕ) : Type 0 where
-  pub each : All (λ q. Lawful (residues q)) moduli
+  pub each : AllByRecursion (λ q. Lawful (residues q)) moduli

@@ -11,4 +11,4 @@ pub use lawful::{
 };
 pub use pairs::Pairs;
 pub use residues::Residues;
-pub use residues::ring::day_field;
+pub use residues::operations::day_field;

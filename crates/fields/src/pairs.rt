@@ -1,7 +1,7 @@
 // Pairs modulo p: the number x + y·i, with i × i the negative of 1, has the code x + p × y.
 ghost use Rattle.std.specs.Prelude.{◌≡◌, ◌%◌, ◌≤◌};
 
-pub mod ring;
+pub mod operations;
 
 // The ring of pairs modulo p, for any p from 3 to 2,147,483,647 that leaves 3 on division by 4; lawful where p is a prime.
 #[derive(Clone, Copy, PartialEq, Eq, Debug)]

@@ -2,9 +2,9 @@
 #![tactic(auto)]
 
 #[cfg(test)]
-mod books;
-#[cfg(test)]
 mod lines;
+#[cfg(test)]
+mod loading;
 #[cfg(test)]
 mod parts;
 #[cfg(test)]

@@ -3,14 +3,14 @@ use Rattle.std.proofs.Common.{◌≡◌, ℕ, ◌+◌, ◌^◌, ◌<◌, ◌≤�
 use Rattle.std.proofs.lemmas.Fmt.{length-decimal-le, decimal_by_steps}
 use Rattle.std.proofs.ByRecursion.{All-append}
 use Rattle.std.proofs.lemmas.Bool.{and_parts, leb-true, not-true, eqb-false}
-use Rattle.std.specs.List.{AllByRecursion as All}
+use Rattle.std.specs.List.{AllByRecursion}
 use Rattle.lists.specs.Laws.{OneLine}
 use Rattle.lists.specs.Texts.{noted, line_end}
 
 -- At most n bytes, and none of them is 10.
 pub record Plain (n : ℕ) (text : List ℕ) : Type 0 where
   pub short : length text ≤ n
-  pub only : All (λ b. b ≡ 10 → ⊥) text
+  pub only : AllByRecursion (λ b. b ≡ 10 → ⊥) text
 
 pub plain_more : (m n : ℕ) (text : List ℕ) → m ≤ n → Plain m text → Plain n text
 plain_more m n text low plain = record { short = omega (arith, plain.short); only = plain.only }
@@ -21,7 +21,7 @@ abbrev clean : List ℕ → Bool
 clean [] = true
 clean (b ∷ text) = not (eqb b 10) && clean text
 
-clean_only : (text : List ℕ) → clean text ≡ true → All (λ b. b ≡ 10 → ⊥) text
+clean_only : (text : List ℕ) → clean text ≡ true → AllByRecursion (λ b. b ≡ 10 → ⊥) text
 clean_only [] e = tt
 clean_only (b ∷ text) e =
     let parts = and_parts (not (eqb b 10)) (clean text) e in
@@ -38,9 +38,9 @@ plain_words n words e =
 
 -- ---- numbers
 
-decimal_only : (n : ℕ) → n < 2 ^ 64 → All (λ b. b ≡ 10 → ⊥) (decimal n)
+decimal_only : (n : ℕ) → n < 2 ^ 64 → AllByRecursion (λ b. b ≡ 10 → ⊥) (decimal n)
 decimal_only =
-    decimal_by_steps (λ n ds. All (λ b. b ≡ 10 → ⊥) ds) (λ n low. (λ e. omega arith, tt))
+    decimal_by_steps (λ n ds. AllByRecursion (λ b. b ≡ 10 → ⊥) ds) (λ n low. (λ e. omega arith, tt))
     (λ n ds high front. All-append (λ b. b ≡ 10 → ⊥) ds _ front (λ e. omega arith, tt))
 
 pub plain_decimal : (k n : ℕ) → 0 < k → n < 10 ^ k → n < 2 ^ 64 → Plain k (decimal n)

@@ -1,6 +1,6 @@
 -- What holds of every line.
 use Rattle.std.specs.Prelude.{◌≡◌, ℕ, ◌<◌, ◌≤◌, ◌⊎◌, List, [], ◌∷◌, ◌++◌, length, Some, Ok, Err, ◌≢◌}
-use Rattle.std.specs.List.{AllByRecursion as All}
+use Rattle.std.specs.List.{AllByRecursion}
 use Rattle.theory.specs.Numbers.{Prime}
 use Rattle.theory.specs.Residues.{residues}
 use Rattle.refusals.specs.declared.Refusal.TheVariants.{NoSquare}
@@ -17,7 +17,7 @@ pub record OneLine (text : List ℕ) : Type 0 where
   pub fits : length text ≤ 96
   pub front : List ℕ
   pub ends : text ≡ front ++ (10 ∷ [])
-  pub only : All (λ b. b ≢ 10) front
+  pub only : AllByRecursion (λ b. b ≢ 10) front
 
 -- So is the line that a head call writes, whatever the book and the track are.
 abbrev pub HeadLines : Type 0

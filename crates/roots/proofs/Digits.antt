@@ -1,6 +1,6 @@
 -- The counts that rooting answers have at most five digits, where the size is below 2 ^ 31.
 use Rattle.std.proofs.Common.{◌≡◌, ℕ, ◌+◌, ◌-◌, ◌*◌, ◌^◌, ◌<◌, ◌≤◌, List, [], ◌∷◌, length, Ok, refl, subst, mul-le-mul, arith}
-use Rattle.std.specs.List.{AllByRecursion as All}
+use Rattle.std.specs.List.{AllByRecursion}
 use Rattle.theory.specs.Meaning.{Meaning, Laws}
 use Rattle.theory.specs.Numbers.{bits}
 use Rattle.theory.proofs.Bits.{bits_mono, bits_is}
@@ -29,7 +29,7 @@ ceiling_small l n t b digits few small bits-few =
     omega arith
 
 -- at most 2,047 tests for each factor
-tests_small : (size : ℕ) (held : List Factor) → All (λ h. (h.r ≤ 4095) × (h.f < 2 ^ 16) × (h.zeta < size)) held → most_tests held ≤ 2047 * length held
+tests_small : (size : ℕ) (held : List Factor) → AllByRecursion (λ h. (h.r ≤ 4095) × (h.f < 2 ^ 16) × (h.zeta < size)) held → most_tests held ≤ 2047 * length held
 tests_small size [] all = omega arith
 tests_small size (h ∷ held) all = omega (arith, all.0.0, tests_small size held all.1)
 

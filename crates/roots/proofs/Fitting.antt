@@ -3,7 +3,7 @@ use Rattle.std.proofs.Common.{◌≡◌, ℕ, zero, suc, ◌-◌, ◌^◌, ◌<�
 use native.Mathlib.Nat.{pow-le-pow_left}
 use Rattle.std.proofs.ByRecursion.{All-push}
 use Rattle.std.proofs.lemmas.Bool.{cases_lt}
-use Rattle.std.specs.List.{AllByRecursion as All}
+use Rattle.std.specs.List.{AllByRecursion}
 use Rattle.theory.specs.Meaning.{Meaning, Laws}
 use Rattle.theory.proofs.Divisors.{divides_bound, divisor_positive}
 use Rattle.theory.proofs.Fields.{zero_product, negative_positive}
@@ -25,7 +25,7 @@ record Small (m : Meaning) (s : State) : Type 0 where
   pub some : 0 < s.rest
   pub high : s.rest < 2 ^ 62
   pub few : length s.factors ≤ 8
-  pub each : All (SmallFactor m) s.factors
+  pub each : AllByRecursion (SmallFactor m) s.factors
 
 -- a power of a base above 1 that is below 2 ^ 62 has an exponent below 62
 exponent_small : (r f : ℕ) → 2 ≤ r → r ^ f < 2 ^ 62 → f < 62
@@ -68,7 +68,7 @@ run_small m laws calls =
     run_keeps m laws (Small m) (holding_small m) (giving_small m) (start m.size) calls (start_small m laws)
 
 -- Each r is at most 4,095, each f fits 16 bits, and each ζ is below the size.
-pub run_fits : (m : Meaning) → Laws m → (calls : List Call) → All (λ h. (h.r ≤ 4095) × (h.f < 2 ^ 16) × (h.zeta < m.size)) (run m calls).factors
+pub run_fits : (m : Meaning) → Laws m → (calls : List Call) → AllByRecursion (λ h. (h.r ≤ 4095) × (h.f < 2 ^ 16) × (h.zeta < m.size)) (run m calls).factors
 run_fits m laws calls = (run_small m laws calls).each
 
 -- At most eight factors are held.

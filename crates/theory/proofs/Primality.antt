@@ -2,7 +2,7 @@
 use Rattle.std.proofs.Common.{◌≡◌, ℕ, zero, suc, ◌+◌, ◌*◌, ◌%◌, ◌<◌, ◌≤◌, Bool, true, false, ◌&&◌, eqb, ltb, ◌⊎◌, List, [], ◌∷◌, sym, refl, ap, ◌∙◌, inl, inr, ⊎_elim, mul_comm, mul-le-mul, arith}
 use native.Mathlib.Nat.{mul-mod_left}
 use Rattle.std.proofs.lemmas.Bool.{and_parts, both_ways, cases_eq, cases_lt, eq-eqb, ltb-true}
-use Rattle.std.specs.List.{AllByRecursion as All}
+use Rattle.std.specs.List.{AllByRecursion}
 use Rattle.theory.specs.Numbers.{Prime}
 
 -- whether none of the so many numbers from d on goes into n
@@ -66,7 +66,7 @@ unfoldable pub all_prime : ℕ → List ℕ → Bool
 all_prime k [] = true
 all_prime k (n ∷ ns) = prime_test k n && all_prime k ns
 
-pub primes_tested : (k : ℕ) (ns : List ℕ) → all_prime k ns ≡ true → All Prime ns
+pub primes_tested : (k : ℕ) (ns : List ℕ) → all_prime k ns ≡ true → AllByRecursion Prime ns
 unfolding all_prime
 primes_tested k [] t = tt
 primes_tested k (n ∷ ns) t =

@@ -1,6 +1,6 @@
 use Rattle.std.proofs.Common.{◌*◌, ◌≤◌, arith}
 use Rattle.fields.proofs.Reduced.{product_le, square_fits}
-use Rattle.fields.proofs.pairs.ring.PairsRing.product.Goals as goal
+use Rattle.fields.proofs.pairs.operations.PairsRing.product.Goals as goal
 
 -- every product of two parts is at most p × p
 bounds : (c : goal.After-imaginary-w)

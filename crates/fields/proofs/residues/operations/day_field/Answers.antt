@@ -1,7 +1,7 @@
 use Rattle.std.proofs.Common.{refl}
 use Rattle.theory.proofs.Primality.{prime_test, prime_tested, undivided}
 use Rattle.theory.proofs.ResidueFields.{prime_lawful}
-use Rattle.fields.proofs.residues.ring.day_field.Goals as goal
+use Rattle.fields.proofs.residues.operations.day_field.Goals as goal
 
 pub returns : goal.returns
 unfolding prime_test undivided

@@ -1,7 +1,7 @@
 use Rattle.std.proofs.Common.{refl, arith}
 use Rattle.fields.proofs.Conjugates.{conjugate_found, conjugate_none}
 use Rattle.fields.proofs.Reduced.{product_le, square_fits}
-use Rattle.fields.proofs.pairs.ring.PairsField.inverse.Goals as goal
+use Rattle.fields.proofs.pairs.operations.PairsField.inverse.Goals as goal
 
 pub overflow_add-x : goal.overflow_add-x
 overflow_add-x c =
