@@ -51,7 +51,7 @@ module _ (r f n : ℕ) where
 -- ---- as often as it goes
 
 module _ (r n : ℕ) where
-  pub record Goes_on (i left : ℕ) : Type 0 where
+  pub record GoesOn (i left : ℕ) : Type 0 where
     pub left_is : left ≡ n / r ^ i
     pub times_is : multiplicity r n ≡ i + multiplicity_in (64 - i) r left
 
@@ -60,11 +60,11 @@ module _ (r n : ℕ) where
     pub times_is : times ≡ multiplicity r n
     pub few : times ≤ 64
 
-  pub goes_starts : Goes_on 0 n
+  pub goes_starts : GoesOn 0 n
   unfolding multiplicity
   goes_starts = record { left_is = power_starts n r; times_is = omega arith }
 
-  pub goes_turn : (i left : ℕ) → i < 64 → left % r ≡ 0 → Goes_on i left → Goes_on (i + 1) (left / r)
+  pub goes_turn : (i left : ℕ) → i < 64 → left % r ≡ 0 → GoesOn i left → GoesOn (i + 1) (left / r)
   unfolding multiplicity_in
   goes_turn i left h e on =
       let step : multiplicity_in (64 - i) r left ≡ suc (multiplicity_in (64 - (i + 1)) r (left / r)) =
@@ -79,7 +79,7 @@ module _ (r n : ℕ) where
   unfolding cofactor
   gone i left h e m = record { left_is = e ∙ sym (ap (λ k. n / r ^ k) m); times_is = sym m; few = h }
 
-  pub goes_stops : (i left : ℕ) → i < 64 → (left % r ≡ 0 → ⊥) → Goes_on i left → Gone left i
+  pub goes_stops : (i left : ℕ) → i < 64 → (left % r ≡ 0 → ⊥) → GoesOn i left → Gone left i
   unfolding multiplicity_in
   goes_stops i left h e on =
       let step : multiplicity_in (64 - i) r left ≡ 0 =
@@ -87,7 +87,7 @@ module _ (r n : ℕ) where
       ∙ ap (λ b. elim b [ true ↦ suc (multiplicity_in (64 - (i + 1)) r (left / r)) | false ↦ 0 ]) (ne_eqb (left % r) 0 e) in
       gone i left (omega arith) on.left_is (omega (arith, on.times_is))
 
-  pub goes_ends : (i left : ℕ) → i ≡ 64 → Goes_on i left → Gone left 64
+  pub goes_ends : (i left : ℕ) → i ≡ 64 → GoesOn i left → Gone left 64
   unfolding multiplicity_in
   goes_ends i left h on =
       let step : multiplicity_in (64 - i) r left ≡ 0 =

@@ -11,7 +11,7 @@
 --
 --   by_equation r c h (solve r (x ∷ y ∷ []) (search quote depth 20) tt)
 --
--- It uses: use Rattle.std.specs.Prelude.{[], ◌∷◌} and use Rattle.theory.proofs.Solver.{solve, quote, by_equation}.
+-- It uses: use Rattle.std.proofs.Common.{[], ◌∷◌} and use Rattle.theory.proofs.Solver.{solve, quote, by_equation}.
 use Rattle.std.proofs.Common.{◌≡◌, ℕ, zero, suc, ◌+◌, ◌*◌, Bool, true, false, ◌&&◌, T, eqb, List, [], ◌∷◌, sym, refl, ap, ◌∙◌, ap₂, add-zero as nat_add_zero, add-suc, mul-zero as nat_mul_zero, mul-suc, eqb→eq}
 use Rattle.theory.proofs.Algebra.{CommRing, zero_add, add_mul, mul_zero, zero_mul, neg_zero, neg_neg, mul_neg, neg_mul, neg_mul_neg, sub_zero, add_swap, neg_only, sub_same}
 

@@ -2,7 +2,7 @@
 // Definitions stand in specs/, theorems in proofs/; the crates above cite both.
 #![tactic(auto)]
 
-// An element top : bottom of the joining for a mark β: it stands for top + typeof.bottom.X with X × X = β, up to a common factor.
+// An element top : bottom of the joining for a mark β: it stands for top + bottom·X with X × X = β, up to a common factor.
 #[derive(Clone, Copy, PartialEq, Eq, Debug)]
 pub struct Ratio {
     pub top: u64,

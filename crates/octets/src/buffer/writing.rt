@@ -1,7 +1,7 @@
 // Putting bytes, words and numbers behind what a buffer holds. What finds no room is left out.
 ghost use Rattle.std.specs.Prelude.{◌≡◌, [], ◌∷◌, decimal};
 ghost use Rattle.octets.specs.Buffers.{held, joined, laid_over};
-ghost use Rattle.octets.specs.Words.{word as word_Bytes, half as half-bytes};
+ghost use Rattle.octets.specs.Words.{word as word_bytes, half as half_bytes};
 
 use super::Buffer;
 
@@ -50,7 +50,7 @@ impl Buffer {
 
     // The low four bytes of n.
     pub fn word(&mut self, n: u64)
-        ensures { held self.new ≡ joined (held self.old) (word_Bytes n) }
+        ensures { held self.new ≡ joined (held self.old) (word_bytes n) }
     {
         let bytes = n.to_le_bytes();
         self.text(&bytes[0..4]);
@@ -58,7 +58,7 @@ impl Buffer {
 
     // The low two bytes of n.
     pub fn half(&mut self, n: u64)
-        ensures { held self.new ≡ joined (held self.old) (half-bytes n) }
+        ensures { held self.new ≡ joined (held self.old) (half_bytes n) }
     {
         let bytes = n.to_le_bytes();
         self.text(&bytes[0..2]);
