@@ -1,8 +1,9 @@
 // Why no book is written.
 use refusals::Refusal;
 use roots::Call;
-use std::alloc::AllocFailed;
+use std::alloc::AllocError;
 use std::{fmt, io};
+use thiserror::Error;
 
 const USAGE: &str = "usage: book Q                            seeks every factor
        book Q [seek] R F [R F ..]        seeks the factors named
@@ -10,60 +11,55 @@ const USAGE: &str = "usage: book Q                            seeks every factor
 Without 'adopt' an even number of numbers is read in pairs. 'book Q seek' takes no factor.";
 
 // What is wrong with the words of the command line.
-#[derive(Clone, Copy)]
+#[derive(Clone, Copy, Debug, Error)]
 pub(crate) enum Misuse {
+    #[error("the modulus is missing")]
     NoModulus,
+    #[error("argument {place} is not a whole number below 2^64")]
     NoNumber { place: u64 },
+    #[error("the power {f} is above 65535")]
     Power { f: u64 },
+    #[error("the words behind the modulus are neither pairs nor triples")]
     Count,
 }
 
 // What was being done when a call was refused.
-#[derive(Clone, Copy)]
+#[derive(Clone, Copy, Debug)]
 pub(crate) enum Step {
     Field { modulus: u64 },
     Call(Call),
     Book,
 }
 
-#[derive(Clone, Copy)]
+#[derive(Clone, Copy, Debug, Error)]
 pub(crate) enum Fault {
-    Words(Misuse),
+    #[error("{0}\n{USAGE}")]
+    Words(#[from] Misuse),
+    #[error("{step}: refused {number} ({why})", number = .why.number(), why = Reason(*.why))]
     Refused { step: Step, why: Refusal },
-    // writing or memory failed
-    System(io::Error),
+    // reading the words or writing failed
+    #[error(transparent)]
+    System(#[from] io::Error),
+    #[error("out of memory")]
+    Memory(#[from(alloc)] AllocError),
 }
 
-fn reason(why: Refusal) -> &'static str {
-    match why {
-        Refusal::Modulus => "the modulus lies outside 2 to 2147483647",
-        Refusal::Size => "the size does not leave 1 on division by 8",
-        Refusal::Full => "eight factors are held",
-        Refusal::Base => "r is even, below 3 or above 4095",
-        Refusal::Power => "f is 0, or r cannot be divided out of the rest f times",
-        Refusal::Shared => "r shares a divisor above 1 with a held r",
-        Refusal::Root => "the root is not below the size, or lacks the order r",
-        Refusal::Unfound => "no code from 1 to 4095 leads to the root sought",
-        Refusal::Room => "too few bytes for the book",
-        _ => "no refusal of a draft or a book",
-    }
-}
+// The reason of a refusal as the maker of a book meets it: the field is one of residues, and a root that is given is a ζ.
+#[derive(Clone, Copy)]
+struct Reason(Refusal);
 
-impl fmt::Display for Misuse {
+impl fmt::Display for Reason {
     fn fmt<W: fmt::Write>(&self, f: &mut fmt::Formatter<W>) -> fmt::Result {
-        match self {
-            Misuse::NoModulus => f.write_str("the modulus is missing"),
-            Misuse::NoNumber { place } => {
-                write!(f, "argument {place} is not a whole number below 2^64")
-            }
-            Misuse::Power { f: power } => write!(f, "the power {power} is above 65535"),
-            Misuse::Count => f.write_str(
-                "the words behind the modulus are neither pairs nor triples",
-            ),
+        match self.0 {
+            Refusal::Modulus => f.write_str("the modulus lies outside 2 to 2147483647"),
+            Refusal::Root => f.write_str("the root is not below the size, or lacks the order r"),
+            Refusal::Room => f.write_str("too few bytes for the book"),
+            why => write!(f, "{why}"),
         }
     }
 }
 
+// By hand: a step is no error, and the text of a call goes by the call's own case.
 impl fmt::Display for Step {
     fn fmt<W: fmt::Write>(&self, f: &mut fmt::Formatter<W>) -> fmt::Result {
         match self {
@@ -79,28 +75,8 @@ impl fmt::Display for Step {
     }
 }
 
-impl fmt::Display for Fault {
-    fn fmt<W: fmt::Write>(&self, f: &mut fmt::Formatter<W>) -> fmt::Result {
-        match self {
-            Fault::Words(misuse) => write!(f, "{misuse}\n{USAGE}"),
-            Fault::Refused { step, why } => {
-                let number = why.number();
-                let reason = reason(*why);
-                write!(f, "{step}: refused {number} ({reason})")
-            }
-            Fault::System(error) => write!(f, "{error}"),
-        }
-    }
-}
-
-impl From<io::Error> for Fault {
-    fn from(error: io::Error) -> Fault {
-        Fault::System(error)
-    }
-}
-
-impl<T: Drop> From<AllocFailed<T>> for Fault {
-    fn from(refused: AllocFailed<T>) -> Fault {
-        Fault::System(refused.into())
+impl Step {
+    pub(crate) fn refused(self, why: Refusal) -> Fault {
+        Fault::Refused { step: self, why }
     }
 }

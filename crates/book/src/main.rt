@@ -2,6 +2,7 @@
 #![tactic(auto)]
 
 mod fault;
+mod form;
 mod plans;
 mod words;
 
@@ -19,15 +20,8 @@ const ROOM: usize = 112;
 
 fn put_book(rt: &HostRuntime, plan: &Plan<Residues>) -> Result<(), Fault> {
     let mut out = [0u8; ROOM];
-    match write_book(plan, &mut out) {
-        Ok(length) => rt.stdout().write_all(&out[0..length])?,
-        Err(why) => {
-            return Err(Fault::Refused {
-                step: Step::Book,
-                why,
-            });
-        }
-    }
+    let length = write_book(plan, &mut out).map_err(|why| Step::Book.refused(why))?;
+    rt.stdout().write_all(&out[..length])?;
     Ok(())
 }
 
@@ -38,6 +32,7 @@ fn run(rt: &HostRuntime) -> Result<(), Fault> {
     put_book(rt, &plan)
 }
 
+// As in `track`; the few lines would need a crate of their own, generic over the fault, to stand once.
 fn main(rt: HostRuntime) -> ExitCode {
     match run(&rt) {
         Ok(()) => ExitCode::SUCCESS,

@@ -2,7 +2,6 @@ pub mod Checked
 pub mod Leaves
 pub mod LoadedWrites
 pub mod LoadsTo
-pub mod OffsetLoop
 pub mod Offsets
 pub mod RecordLoop
 pub mod Records

@@ -1,7 +1,9 @@
 -- The offset words of a book, as they are written and as they are checked.
-use Rattle.std.proofs.Common.{◌≡◌, ℕ, zero, suc, ◌+◌, ◌*◌, ◌≤◌, true, eqb, List, ◌++◌, length, drop, refl, ap, ◌∙◌, arith}
-use Rattle.std.proofs.lemmas.Bool.{eqb-true, eq-eqb, and_parts, and_from}
-use Rattle.octets.specs.Words.{word, word_at}
+use Rattle.std.proofs.Common.{◌≡◌, ℕ, zero, suc, ◌+◌, ◌*◌, ◌≤◌, Bool, true, cond, ◌&&◌, eqb, List, Some, None, ◌++◌, length, drop, refl, ap, ap₂, ◌∙◌, add-one, arith}
+use Rattle.std.specs.List.{list_all, range_with_len}
+use Rattle.std.specs.Option.{option_eq}
+use Rattle.std.proofs.lemmas.Bool.{eqb-true, eq-eqb, le-leb, and_parts, and_from}
+use Rattle.octets.specs.Words.{word, word_at, word_in}
 use Rattle.books.specs.Layout.{offset, offsets_right}
 use Rattle.books.specs.RoundTrip.{Bytes}
 use Rattle.books.specs.Writing.{offset_words}
@@ -36,3 +38,16 @@ offsets_written book all n k (suc left) room stand =
     ∙ ap (λ at. word (offset n k) ++ drop at book) (omega arith)
     ∙ ap (λ (xs : List ℕ). word (offset n k) ++ xs) below
     ∙ ap (λ at. word (offset n k) ++ (offset_words n (suc k) left ++ drop at book)) (omega arith)
+
+-- ---- the check that the code makes: each offset word is there, and is as stated
+
+abbrev pub stated : List ℕ → ℕ → ℕ → Bool
+stated book n k = option_eq eqb (word_in book (16 + 4 * k)) (Some (offset n k))
+
+pub all_stated : (book : List ℕ) (n k left : ℕ) → 16 + 4 * (k + left) ≤ length book → list_all (stated book n) (range_with_len k left) ≡ offsets_right book n k left
+unfolding offsets_right
+all_stated book n k zero room = refl
+all_stated book n k (suc left) room =
+    let there = le-leb (16 + 4 * k + 4) (length book) (omega arith) in
+    ap₂ (λ (a b : Bool). a && b) (ap (λ b. option_eq eqb (cond b (Some (word_at book (16 + 4 * k))) None) (Some (offset n k))) there)
+    (ap (λ j. list_all (stated book n) (range_with_len j left)) (add-one k) ∙ all_stated book n (suc k) left (omega arith))

@@ -3,12 +3,12 @@ use Rattle.std.proofs.Common.{◌≡◌, ℕ, zero, suc, ◌+◌, ◌-◌, ◌<�
 use Rattle.theory.specs.Meaning.{Meaning}
 use Rattle.refusals.specs.declared.Refusal.{Refusal}
 use Rattle.roots.specs.declared.call.Call.{Call}
-use Rattle.roots.specs.declared.call.Call.TheVariants.{Give}
 use Rattle.roots.specs.Drafts.{Outcome, answer, next}
+use Rattle.roots.specs.Laws.{giving_fourth}
 use Rattle.roots.specs.Runs.{step, tried}
 use Rattle.roots.specs.State.{State}
 use Rattle.roots.proofs.Rebuilt.{tried_none, tried_refused, tried_accepted}
-use Rattle.books.specs.Layout.{offset}
+use Rattle.books.specs.Layout.{fourth_in, offset}
 use Rattle.books.specs.Loading.{Tries, fourth_calls, records}
 use Rattle.books.specs.Parts.{record_at}
 
@@ -45,9 +45,9 @@ refused_append m s (c ∷ calls) ys why e = from (step m s c) refl (λ done. ref
 
 -- ---- the fourth root
 
-pub fourth_given : (i : ℕ) → (i ≡ 0 → ⊥) → fourth_calls i ≡ Give i ∷ []
-fourth_given zero some = absurd (some refl)
-fourth_given (suc i) some = refl
+pub fourth_given : (i : ℕ) → giving_fourth (fourth_in i) ≡ fourth_calls i
+fourth_given zero = refl
+fourth_given (suc i) = refl
 
 -- ---- records
 

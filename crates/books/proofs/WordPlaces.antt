@@ -10,7 +10,7 @@ use Rattle.books.proofs.WordLaws.{word_joined, half_joined, word_parted, half_pa
 first_at : (bytes : List ℕ) (at : ℕ) → get_or (drop at bytes) 0 0 ≡ get_or bytes at 0
 first_at bytes at = get_or-drop at bytes 0 0 ∙ ap (λ k. get_or bytes k 0) (add-zero at)
 
-word_at_drop : (bytes : List ℕ) (at : ℕ) → word_at bytes at ≡ word_at (drop at bytes) 0
+pub word_at_drop : (bytes : List ℕ) (at : ℕ) → word_at bytes at ≡ word_at (drop at bytes) 0
 word_at_drop bytes at =
     let a = first_at bytes at in
     let b = get_or-drop at bytes 1 0 in

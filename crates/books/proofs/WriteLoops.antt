@@ -1,24 +1,27 @@
 -- Writing the offsets and the records of a book, turn by turn.
-use Rattle.std.proofs.Common.{◌≡◌, ℕ, suc, ◌+◌, ◌-◌, ◌*◌, ◌<◌, ◌≤◌, List, [], ◌∷◌, ◌++◌, length, get_or, drop, sym, refl, ap, ◌∙◌, add-one, arith}
-use Rattle.std.proofs.lemmas.List.{at_drop_more, at_drop_all, length-append}
+use Rattle.std.proofs.Common.{◌≡◌, ℕ, suc, ◌+◌, ◌-◌, ◌*◌, ◌<◌, ◌≤◌, List, [], ◌∷◌, ◌++◌, length, get_or, drop, Some, None, Option, sym, refl, ap, ◌∙◌, add-one, arith}
+use Rattle.std.specs.Option.{unwrap_or}
+use Rattle.std.proofs.lemmas.List.{append-nil, append_assoc, at_drop_more, at_drop_all, length-append}
 use Rattle.roots.specs.declared.factor.Factor.{Factor}
 use Rattle.roots.specs.State.{State}
-use Rattle.octets.specs.declared.buffer.Buffer.{Buffer}
-use Rattle.octets.specs.Buffers.{held, joined}
+use Rattle.octets.specs.Buffers.{joined}
 use Rattle.octets.specs.Words.{word}
-use Rattle.octets.proofs.Joined.{held_few, joined_none, joined_all, joined_joined, joined_three}
+use Rattle.octets.proofs.Joined.{joined_all}
 use Rattle.books.specs.Layout.{offset}
 use Rattle.books.specs.Writing.{book_of, fourth_word, head_bytes, offset_words, record_bytes, records_bytes}
 use Rattle.books.proofs.Offsets.{offset_words_length}
 use Rattle.books.proofs.Records.{records_bytes_length}
 
--- a piece written, with what is left to write
-pub written_on : (before after : List ℕ) (piece rest : List ℕ) → after ≡ joined before piece → joined before (piece ++ rest) ≡ joined after rest
-written_on before after piece rest e = sym (joined_joined before piece rest) ∙ ap (λ (h : List ℕ). joined h rest) (sym e)
+-- one piece more of a whole that finds room
+pub written_on : (before after piece rest whole : List ℕ) → length whole ≤ 112 → after ≡ joined before piece → before ++ (piece ++ rest) ≡ whole → after ++ rest ≡ whole
+written_on before after piece rest whole room e is =
+    let all = ap length is in
+    let fits : length before + length piece ≤ 112 = omega (arith, length-append before (piece ++ rest), length-append piece rest) in
+    ap (λ h. h ++ rest) (e ∙ joined_all before piece fits) ∙ append_assoc before piece rest ∙ is
 
 -- nothing left to write
-pub written_all : (b : Buffer) (rest : List ℕ) → rest ≡ [] → joined (held b) rest ≡ held b
-written_all b rest none = ap (joined (held b)) none ∙ joined_none (held b) (held_few b)
+pub written_all : (held rest whole : List ℕ) → rest ≡ [] → held ++ rest ≡ whole → held ≡ whole
+written_all held rest whole none is = sym (append-nil held) ∙ ap (λ r. held ++ r) (sym none) ∙ is
 
 -- ---- offsets
 
@@ -26,15 +29,27 @@ words_more : (n k left : ℕ) → offset_words n k (suc left) ≡ word (offset n
 unfolding offset_words
 words_more n k left = refl
 
-pub words_turn : (n k : ℕ) → k < n → offset_words n k (n - k) ≡ word (offset n k) ++ offset_words n (k + 1) (n - (k + 1))
+words_turn : (n k : ℕ) → k < n → offset_words n k (n - k) ≡ word (offset n k) ++ offset_words n (k + 1) (n - (k + 1))
 words_turn n k h =
     let left : n - k ≡ suc (n - (k + 1)) = omega arith in
     ap (offset_words n k) left ∙ words_more n k (n - (k + 1))
     ∙ ap (λ j. word (offset n k) ++ offset_words n j (n - (k + 1))) (sym (add-one k))
 
-pub words_over : (n k : ℕ) → n ≤ k → offset_words n k (n - k) ≡ []
+words_over : (n k : ℕ) → n ≤ k → offset_words n k (n - k) ≡ []
 unfolding offset_words
 words_over n k h = let none : n - k ≡ 0 = omega arith in ap (offset_words n k) none
+
+module _ (n k : ℕ) (records before whole : List ℕ) (is : before ++ (offset_words n k (n - k) ++ records) ≡ whole) where
+  pub words_on : (after : List ℕ) → k < n → length whole ≤ 112 → after ≡ joined before (word (offset n k))
+      → after ++ (offset_words n (k + 1) (n - (k + 1)) ++ records) ≡ whole
+  words_on after h room e =
+      let piece = word (offset n k) in
+      let others = offset_words n (k + 1) (n - (k + 1)) in
+      written_on before after piece (others ++ records) whole room e
+      (ap (λ ws. before ++ ws) (sym (append_assoc piece others records) ∙ ap (λ ws. ws ++ records) (sym (words_turn n k h))) ∙ is)
+
+  pub words_end : n ≤ k → before ++ records ≡ whole
+  words_end h = ap (λ ws. before ++ (ws ++ records)) (sym (words_over n k h)) ∙ is
 
 -- ---- records
 
@@ -56,11 +71,15 @@ book_length q s =
     let n = length s.factors in
     omega (arith, length-append (offset_words n 0 n) (records_bytes s.factors), offset_words_length n 0 n, records_bytes_length s.factors)
 
--- head, offsets and records, one behind the other in an empty buffer
-pub book_joined : (q : ℕ) (s : State) (none one two three : List ℕ) → length s.factors ≤ 8 → none ≡ []
-    → one ≡ joined none (head_bytes q (fourth_word s.fourth) (length s.factors))
-    → two ≡ joined one (offset_words (length s.factors) 0 (length s.factors)) → three ≡ joined two (records_bytes s.factors) → three ≡ book_of q s
-book_joined q s none one two three few a b c d =
-    let n = length s.factors in
-    joined_three none one two three (head_bytes q (fourth_word s.fourth) n) (offset_words n 0 n) (records_bytes s.factors) b c d
-    ∙ ap (λ (h : List ℕ). joined h (book_of q s)) a ∙ joined_all [] (book_of q s) (omega (arith, book_length q s))
+pub word_is : (o : Option ℕ) → unwrap_or o 0 ≡ fourth_word o
+word_is None = refl
+word_is (Some i) = refl
+
+-- the head in an empty buffer, and what is left to write behind it
+pub head_first : (q : ℕ) (s : State) (p i : ℕ) (hs : List Factor) (none one : List ℕ) → none ≡ [] → p ≡ q → i ≡ fourth_word s.fourth → hs ≡ s.factors
+    → one ≡ joined none (head_bytes p i (length hs)) → one ++ (offset_words (length hs) 0 (length hs - 0) ++ records_bytes hs) ≡ book_of q s
+head_first q s p i hs none one empty size root held e =
+    let n = length hs in
+    let head = joined_all [] (head_bytes p i n) (omega arith) in
+    let all : n - 0 ≡ n = omega arith in
+    cc

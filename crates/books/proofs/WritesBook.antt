@@ -1,5 +1,5 @@
 -- Writing a book over the front of an output that has room for it.
-use Rattle.std.proofs.Common.{◌≡◌, ℕ, ◌+◌, ◌*◌, ◌≤◌, true, not, ltb, List, ◌++◌, length, take, drop, Ok, Result, sym, ap, ◌∙◌, subst, arith}
+use Rattle.std.proofs.Common.{◌≡◌, ℕ, ◌+◌, ◌*◌, ◌≤◌, min, true, not, ltb, List, ◌++◌, length, take, drop, Ok, Result, sym, ap, ◌∙◌, subst, arith}
 use Rattle.std.proofs.lemmas.List.{take_at}
 use Rattle.std.proofs.lemmas.Bool.{not_from_true, le-ltb}
 use Rattle.theory.specs.Residues.{residues}
@@ -16,6 +16,10 @@ use Rattle.books.specs.Output.{Written, left_by, length_by}
 use Rattle.books.specs.Writing.{book_of, writing}
 use Rattle.books.proofs.WriteLoops.{book_length}
 use Rattle.books.proofs.WrittenLoads.{written_loads}
+
+-- an output with room for the book takes all of it
+pub wrote_all : (q : ℕ) (s : State) (out buffer : List ℕ) → 16 + 12 * length s.factors ≤ length out → buffer ≡ book_of q s → min (length buffer) (length out) ≡ length buffer
+wrote_all q s out buffer room is = let same = ap length is in omega (arith, book_length q s)
 
 module _ (q : ℕ) (s : State) (out buffer : List ℕ) (serves : served q ≡ true) (room : 16 + 12 * length s.factors ≤ length out) (is : buffer ≡ book_of q s) where
   writes : writing q s (length out) ≡ Ok (book_of q s)

@@ -1,5 +1,5 @@
 -- How a book is laid out: a head of four words (format 1, modulus, fourth root or 0, count n), n offset words, and n records of eight bytes.
-use Rattle.std.specs.Prelude.{ℕ, zero, suc, ◌+◌, ◌*◌, Bool, true, not, ◌&&◌, ◌||◌, List, length, Ok, Result, ◌==◌, nat_le, nat_lt}
+use Rattle.std.specs.Prelude.{ℕ, zero, suc, ◌+◌, ◌*◌, Bool, true, not, ◌&&◌, ◌||◌, List, length, Some, None, Ok, Option, Result, ◌==◌, nat_le, nat_lt}
 use Rattle.refusals.specs.declared.Refusal.{Refusal}
 use Rattle.refusals.specs.declared.Refusal.TheVariants.{Format, Layout}
 use Rattle.roots.specs.Drafts.{refuse}
@@ -12,6 +12,11 @@ pub record Head : Type 0 where
   pub fourth : ℕ
   -- how many records there are
   pub count : ℕ
+
+-- the fourth root that a word of the head stands for
+abbrev pub fourth_in : ℕ → Option ℕ
+fourth_in zero = None
+fourth_in (suc i) = Some (suc i)
 
 abbrev pub head_of : List ℕ → Head
 head_of book = record { modulus = word_at book 4; fourth = word_at book 8; count = word_at book 12 }

@@ -4,13 +4,13 @@ use Rattle.theory.specs.Residues.{residues}
 use Rattle.refusals.specs.declared.Refusal.{Refusal}
 use Rattle.refusals.specs.declared.Refusal.TheVariants.{Modulus, Size}
 use Rattle.fields.specs.declared.residues.Residues.{Residues}
+use Rattle.roots.specs.declared.gathered.Gathered.{Gathered}
+use Rattle.roots.specs.declared.gathered.Open.{Open}
+use Rattle.roots.specs.declared.gathered.Closed.{Closed}
 use Rattle.roots.specs.declared.call.Call.{Call}
 use Rattle.roots.specs.declared.call.Call.TheVariants.{Give}
 use Rattle.roots.specs.declared.factor.Factor.{Factor}
-use Rattle.roots.specs.declared.draft.Draft.{Draft}
-use Rattle.roots.specs.declared.plan.Plan.{Plan}
 use Rattle.roots.specs.Drafts.{refuse}
-use Rattle.roots.specs.Held.{held_state}
 use Rattle.roots.specs.Laws.{adopting}
 use Rattle.roots.specs.Runs.{tried}
 use Rattle.roots.specs.State.{State, served, start}
@@ -60,16 +60,20 @@ abbrev pub Tries : Result State Refusal → Result (Unit {0}) Refusal → State 
 Tries outcome (Ok done) s = outcome ≡ Ok s
 Tries outcome (Err why) s = outcome ≡ Err why
 
+-- The same of a draft over residues, before and after.
+abbrev pub Fills : Gathered Residues Open → List Call → Result (Unit {0}) Refusal → Gathered Residues Open → Type 0
+Fills before calls r after = Tries (tried (residues before.field.q) before.held calls) r after.held
+
 -- What beginning to load answers: a new draft over the residues, where the checks on the modulus are passed, or the refusal that they come to.
-abbrev pub Begins : ℕ → Result (Draft Residues) Refusal → Type 0
+abbrev pub Begins : ℕ → Result (Gathered Residues Open) Refusal → Type 0
 Begins q (Ok d) =
-    ((calls : List Call) → loaded_over q calls ≡ with_modulus q (tried (residues q) (start q) calls)) × (d.field.q ≡ q) × (held_state d.held ≡ start q)
+    ((calls : List Call) → loaded_over q calls ≡ with_modulus q (tried (residues q) (start q) calls)) × (d.field.q ≡ q) × (d.held ≡ start q)
 Begins q (Err why) = (calls : List Call) → loaded_over q calls ≡ Err why
 
 -- what a plan over residues holds, as a value of the program
-abbrev pub bound : Plan Residues → Bound
-bound p = (p.field.q, held_state p.held)
+abbrev pub bound : Gathered Residues Closed → Bound
+bound p = (p.field.q, p.held)
 
-abbrev pub bound_in : Result (Plan Residues) Refusal → Result Bound Refusal
+abbrev pub bound_in : Result (Gathered Residues Closed) Refusal → Result Bound Refusal
 bound_in (Ok p) = Ok (bound p)
 bound_in (Err why) = Err why

@@ -6,14 +6,14 @@ use Rattle.roots.specs.Drafts.{factor}
 use Rattle.octets.specs.Words.{half_at, word_at}
 use Rattle.books.specs.declared.book.Book.{Book}
 use Rattle.books.specs.declared.part.Part.{Part}
-use Rattle.books.specs.declared.part.Part.TheVariants.{Head, Offset, Record}
-use Rattle.books.specs.Layout.{opened, offset}
+use Rattle.books.specs.declared.part.Part.TheVariants.{Head as HeadPart, Offset, Record}
+use Rattle.books.specs.Layout.{Head, fourth_in, opened, offset}
 
 -- What opening answers: the book over the same bytes with its head's words, or the first refusal.
 abbrev pub Opens : List ℕ → Result Book Refusal → Type 0
 Opens bytes (Err why) = opened bytes ≡ Err why
 Opens bytes (Ok b) =
-    (b.bytes.now ≡ bytes) × (opened bytes ≡ Ok (record { modulus = b.modulus; fourth = b.fourth; count = b.count }))
+    (b.bytes.now ≡ bytes) × (h : Head) × (opened bytes ≡ Ok h) × (b.modulus ≡ h.modulus) × (b.fourth ≡ fourth_in h.fourth) × (b.count ≡ h.count)
 
 -- the factor whose record begins at a place
 abbrev pub record_at : List ℕ → ℕ → Factor
@@ -27,9 +27,9 @@ record_in bytes = cond (nat_lt (length bytes) 8) None (Some (record_at bytes 0))
 abbrev pub record_read : List ℕ → ℕ → Option Factor
 record_read bytes at = cond (nat_lt (length bytes) (at + 8)) None (Some (record_at bytes at))
 
--- Part k of a book of n records: the head, then the offsets, then the records; none only where these are over, or the bytes too few.
+-- Part k of a book of n records: the head, then the offsets, then the records; none only where these are over.
 abbrev pub Parted : List ℕ → ℕ → ℕ → Option Part → Type 0
-Parted bytes n k None = 16 + 12 * n ≤ length bytes → 1 + 2 * n ≤ k
-Parted bytes n k (Some (Head at part)) = (k ≡ 0) × (at ≡ 0) × (part.now ≡ take 16 bytes)
+Parted bytes n k None = 1 + 2 * n ≤ k
+Parted bytes n k (Some (HeadPart at part)) = (k ≡ 0) × (at ≡ 0) × (part.now ≡ take 16 bytes)
 Parted bytes n k (Some (Offset at part)) = (j : ℕ) × (k ≡ 1 + j) × (j < n) × (at ≡ 16 + 4 * j) × (part.now ≡ take 4 (drop at bytes))
 Parted bytes n k (Some (Record at part)) = (j : ℕ) × (k ≡ 1 + n + j) × (j < n) × (at ≡ offset n j) × (part.now ≡ take 8 (drop at bytes))

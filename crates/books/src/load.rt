@@ -1,11 +1,8 @@
 // Loading a book: its records are adopted and its fourth root is given in a draft of its own, which is closed.
-ghost use Rattle.std.specs.Prelude.{◌≡◌, ◌+◌, ◌*◌, length, IfOk};
-ghost use Rattle.theory.specs.Residues.{residues};
-ghost use Rattle.roots.specs.Held.{held_state};
-ghost use Rattle.roots.specs.Laws.{adopting};
-ghost use Rattle.roots.specs.Runs.{tried};
+ghost use Rattle.std.specs.Prelude.{◌≡◌, ◌++◌, IfOk};
+ghost use Rattle.roots.specs.Laws.{adopting, giving_fourth};
 ghost use Rattle.books.specs.Layout.{offset};
-ghost use Rattle.books.specs.Loading.{Begins, Tries, bound, bound_in, calls_of, fourth_calls, loaded, records};
+ghost use Rattle.books.specs.Loading.{Begins, Fills, bound, bound_in, loaded, records};
 ghost use Rattle.books.specs.RoundTrip.{Reached};
 ghost use Rattle.books.specs.Writing.{book_of};
 
@@ -26,40 +23,36 @@ fn begin(modulus: u64) -> Result<Draft<Residues>, Refusal>
     Ok(Draft::start(field))
 }
 
-// Adopts the records in order, up to the first that is refused.
+// Adopts the records in order, up to the first that is refused. By number, since record k is what stands at its own offset.
 fn adopt_records(draft: &mut Draft<Residues>, book: &Book) -> Result<(), Refusal>
-    requires { length book.now.bytes.now ≡ 16 + 12 * book.now.count }
-    ensures value { Tries (tried (residues draft.old.field.q) (held_state draft.old.held) (adopting (records book.now.bytes.now (offset book.now.count 0) book.now.count))) result (held_state draft.new.held) }
+    ensures value { Fills draft.old (adopting (records book.now.bytes.now (offset book.now.count 0) book.now.count)) result draft.new }
     ensures field { draft.new.field ≡ draft.old.field }
 {
     for k in 0..book.count() {
-        let Some(factor) = book.factor(k) else {
-            return Err(Refusal::Layout);
-        };
+        let factor = book.factor(k).ok_or(Refusal::Layout)?;
         draft.adopt(factor.r, factor.f, factor.zeta)?;
     }
     Ok(())
 }
 
-// Gives a fourth root other than 0.
-fn give_fourth(draft: &mut Draft<Residues>, fourth: u64) -> Result<(), Refusal>
-    ensures value { Tries (tried (residues draft.old.field.q) (held_state draft.old.held) (fourth_calls fourth)) result (held_state draft.new.held) }
+// Gives the fourth root, if there is one.
+fn give_fourth(draft: &mut Draft<Residues>, fourth: Option<u32>) -> Result<(), Refusal>
+    ensures value { Fills draft.old (giving_fourth fourth) result draft.new }
     ensures field { draft.new.field ≡ draft.old.field }
 {
-    if fourth != 0 {
-        draft.give(fourth)?;
+    if let Some(root) = fourth {
+        draft.give(u64::from(root))?;
     }
     Ok(())
 }
 
 // All that a book asks of a draft.
 fn fill(draft: &mut Draft<Residues>, book: &Book) -> Result<(), Refusal>
-    requires { length book.now.bytes.now ≡ 16 + 12 * book.now.count }
-    ensures value { Tries (tried (residues draft.old.field.q) (held_state draft.old.held) (calls_of book.now.bytes.now book.now.count book.now.fourth)) result (held_state draft.new.held) }
+    ensures value { Fills draft.old (adopting (records book.now.bytes.now (offset book.now.count 0) book.now.count) ++ giving_fourth book.now.fourth) result draft.new }
     ensures field { draft.new.field ≡ draft.old.field }
 {
     adopt_records(draft, book)?;
-    give_fourth(draft, u64::from(book.fourth()))
+    give_fourth(draft, book.fourth())
 }
 
 // The plan that a book holds, or the first refusal. What is loaded is what some list of calls leaves, and is written back in the same bytes.

@@ -1,11 +1,10 @@
 // Writing a closed plan over residues as a book.
-ghost use Rattle.std.specs.Prelude.{◌≡◌, ◌≤◌, length};
-ghost use Rattle.roots.specs.Held.{held_state};
-ghost use Rattle.octets.specs.Buffers.{held, joined};
+ghost use Rattle.std.specs.Prelude.{◌≡◌, length};
+ghost use Rattle.octets.specs.Buffers.{joined};
 ghost use Rattle.books.specs.Loading.{bound};
 ghost use Rattle.books.specs.Output.{left_by, length_by};
 ghost use Rattle.books.specs.RoundTrip.{LoadsBack};
-ghost use Rattle.books.specs.Writing.{book_of, fourth_word, head_bytes, offset_words, records_bytes, writing};
+ghost use Rattle.books.specs.Writing.{book_of, head_bytes, record_bytes, writing};
 
 use fields::Residues;
 use octets::Buffer;
@@ -13,60 +12,39 @@ use refusals::Refusal;
 use ring::Ring;
 use roots::{Factor, Plan, is_served};
 
-// The offsets of so many records.
-fn put_offsets(buffer: &mut Buffer, count: u64)
-    requires { count ≤ 8 }
-    ensures { held buffer.new ≡ joined (held buffer.old) (offset_words count 0 count) }
-{
-    for k in 0..count {
-        buffer.word(16 + 4 * count + 8 * k);
-    }
-}
-
-fn put_records(buffer: &mut Buffer, factors: &[Factor])
-    ensures { held buffer.new ≡ joined (held buffer.old) (records_bytes factors.now) }
-{
-    for factor in factors {
-        buffer.half(factor.r);
-        buffer.half(u64::from(factor.f));
-        buffer.word(factor.zeta);
-    }
-}
-
-// 0 stands for no fourth root.
-fn word_of(fourth: Option<u64>) -> u64
-    ensures { result ≡ fourth_word fourth }
-{
-    match fourth {
-        Some(root) => root,
-        None => 0,
-    }
-}
-
 fn put_head(buffer: &mut Buffer, modulus: u64, fourth: u64, count: u64)
-    ensures { held buffer.new ≡ joined (held buffer.old) (head_bytes modulus fourth count) }
+    ensures { buffer.new ≡ joined buffer.old (head_bytes modulus fourth count) }
 {
-    buffer.word(1);
-    buffer.word(modulus);
-    buffer.word(fourth);
-    buffer.word(count);
+    buffer.low::<4>(1);
+    buffer.low::<4>(modulus);
+    buffer.low::<4>(fourth);
+    buffer.low::<4>(count);
 }
 
-// All the bytes of a plan's book.
+fn put_record(buffer: &mut Buffer, factor: &Factor)
+    ensures { buffer.new ≡ joined buffer.old (record_bytes factor.now) }
+{
+    buffer.low::<2>(factor.r);
+    buffer.low::<2>(u64::from(factor.f));
+    buffer.low::<4>(factor.zeta);
+}
+
+// All the bytes of a plan's book: the head, where each record begins, and the records.
 fn book_bytes(plan: &Plan<Residues>) -> Buffer
-    ensures { held result ≡ book_of (bound plan.now).0 (bound plan.now).1 }
+    ensures { result ≡ book_of (bound plan.now).0 (bound plan.now).1 }
 {
     let factors = plan.factors();
     let count = factors.len() as u64;
+    // in the bytes 0 stands for no fourth root
+    let fourth = plan.fourth().unwrap_or(0);
     let mut buffer = Buffer::new();
-    put_head(
-        &mut buffer,
-        plan.field().size(),
-        word_of(plan.fourth()),
-        count,
-    );
-    put_offsets(&mut buffer, count);
-    put_records(&mut buffer, factors);
+    put_head(&mut buffer, plan.field().size(), fourth, count);
+    for k in 0..count {
+        buffer.low::<4>(16 + 4 * count + 8 * k);
+    }
+    for factor in factors {
+        put_record(&mut buffer, factor);
+    }
     buffer
 }
 
@@ -83,7 +61,5 @@ pub fn write_book(plan: &Plan<Residues>, out: &mut [u8]) -> Result<usize, Refusa
     if out.len() < 16 + 12 * plan.factors().len() {
         return Err(Refusal::Room);
     }
-    let buffer = book_bytes(plan);
-    buffer.lay_over(out);
-    Ok(buffer.as_slice().len())
+    Ok(book_bytes(plan).lay_over(out))
 }

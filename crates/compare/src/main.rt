@@ -7,9 +7,9 @@ mod table;
 
 use anyhow::anyhow;
 use fields::{Pairs, Residues};
-use plans::{Way, drafted};
-use refusals::Refusal;
+use plans::{each_plan, is_prime};
 use ring::{Field, Ring};
+use std::fmt;
 use table::Table;
 
 // How many marks were rooted, and at how many the answer was wrong.
@@ -35,99 +35,75 @@ impl Tally {
     }
 }
 
-// Every mark, 0 and one that is not below the size among them, with the plan that a way makes.
-fn compare_plan<F: Field + Copy + Drop>(field: F, way: Way, table: &Table) -> Tally {
-    let plan = drafted(field, way).close();
-    let mut tally = Tally::NONE;
-    for mark in 0..field.size().saturating_add(1) {
-        tally.count(table.agrees(mark, plan.root(mark)));
+impl fmt::Display for Tally {
+    fn fmt<W: fmt::Write>(&self, f: &mut fmt::Formatter<W>) -> fmt::Result {
+        let Tally { marks, wrong } = self;
+        write!(f, "{marks} marks, {wrong} wrong")
     }
-    tally
 }
 
+// Every mark, 0 and one that is not below the size among them, with each plan.
 fn compare_field<F: Field + Copy + Drop>(rt: &HostRuntime, field: F) -> anyhow::Result<Tally> {
     let table = Table::of(rt.alloc(), &field)?;
     let mut tally = Tally::NONE;
-    for way in Way::ALL {
-        tally.add(compare_plan(field, way, &table));
-    }
+    each_plan(field, |plan| {
+        for mark in 0..=field.size() {
+            tally.count(table.agrees(mark, plan.root(mark)));
+        }
+    });
     Ok(tally)
 }
 
 // Over any ring: an accepted root squares to the mark.
 fn try_ring<F: Field + Copy + Drop>(field: F) -> Tally {
+    let squares_to = |x, mark| field.product(x, x) == mark;
     let mut tally = Tally::NONE;
-    for way in Way::ALL {
-        let plan = drafted(field, way).close();
+    each_plan(field, |plan| {
         for mark in 0..field.size() {
             let right = match plan.root(mark) {
-                Ok(((a, b), _)) => field.product(a, a) == mark && field.product(b, b) == mark,
+                Ok(((a, b), _)) => squares_to(a, mark) && squares_to(b, mark),
                 Err(_) => true,
             };
             tally.count(right);
         }
-    }
+    });
     tally
 }
 
-fn is_prime(q: u64) -> bool {
-    for d in 2..q {
-        if q % d == 0 {
-            return false;
-        }
+// Compares where the modulus is prime, and so the field lawful. Of the others those below 300 are tried.
+fn check<F: Field + Copy + Drop>(
+    rt: &HostRuntime,
+    field: F,
+    modulus: u64,
+    lawful: &str,
+    unlawful: &str,
+) -> anyhow::Result<Tally> {
+    if is_prime(modulus) {
+        let tally = compare_field(rt, field)?;
+        println!(rt; "{lawful} {modulus}: {tally}")?;
+        return Ok(tally);
     }
-    q > 1
-}
-
-fn report(rt: &HostRuntime, what: &str, size: u64, tally: Tally) -> anyhow::Result<()> {
-    let marks = tally.marks;
-    let wrong = tally.wrong;
-    println!(rt; "{what} {size}: {marks} marks, {wrong} wrong")?;
-    Ok(())
-}
-
-fn all_residues(rt: &HostRuntime) -> anyhow::Result<Tally> {
-    let mut sum = Tally::NONE;
-    for k in 2..125u64 {
-        let q = 8 * k + 1;
-        if let Ok(field) = Residues::new(q) {
-            if is_prime(q) {
-                let tally = compare_field(rt, field)?;
-                report(rt, "residues modulo", q, tally)?;
-                sum.add(tally);
-            } else if q < 300 {
-                let tally = try_ring(field);
-                report(rt, "not lawful, modulo", q, tally)?;
-                sum.add(tally);
-            }
-        }
+    if modulus >= 300 {
+        return Ok(Tally::NONE);
     }
-    Ok(sum)
-}
-
-fn all_pairs(rt: &HostRuntime) -> anyhow::Result<Tally> {
-    let mut sum = Tally::NONE;
-    for p in [3, 7, 11] {
-        if let Ok(field) = Pairs::new(p) {
-            let tally = compare_field(rt, field)?;
-            report(rt, "pairs modulo", p, tally)?;
-            sum.add(tally);
-        }
-    }
-    if let Ok(field) = Pairs::new(15) {
-        let tally = try_ring(field);
-        report(rt, "not lawful, pairs modulo", 15, tally)?;
-        sum.add(tally);
-    }
-    Ok(sum)
+    let tally = try_ring(field);
+    println!(rt; "{unlawful} {modulus}: {tally}")?;
+    Ok(tally)
 }
 
 fn run(rt: &HostRuntime) -> anyhow::Result<()> {
-    let mut sum = all_residues(rt)?;
-    sum.add(all_pairs(rt)?);
-    let marks = sum.marks;
-    let wrong = sum.wrong;
-    println!(rt; "in all: {marks} marks, {wrong} wrong")?;
+    let mut sum = Tally::NONE;
+    for q in (17..1000u64).step_by(8) {
+        if let Ok(field) = Residues::new(q) {
+            sum.add(check(rt, field, q, "residues modulo", "not lawful, modulo")?);
+        }
+    }
+    for p in [3, 7, 11, 15] {
+        if let Ok(field) = Pairs::new(p) {
+            sum.add(check(rt, field, p, "pairs modulo", "not lawful, pairs modulo")?);
+        }
+    }
+    println!(rt; "in all: {sum}")?;
     if sum.wrong > 0 {
         return Err(anyhow!("rooting and brute force differ"));
     }

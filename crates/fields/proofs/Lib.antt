@@ -1,3 +1,2 @@
 mod Conjugates
 mod EachLawful
-mod Reduced

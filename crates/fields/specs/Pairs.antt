@@ -7,7 +7,7 @@ use Rattle.theory.specs.Meaning.{Meaning}
 use Rattle.theory.specs.Pairs.{pairs}
 
 abbrev pub of_pairs : Pairs → Meaning
-of_pairs r = pairs r.p
+of_pairs r = pairs r.base.q
 
 -- What making the pairs modulo p answers: they mean what they should, or p is outside 3 to 2,147,483,647 or does not leave 3 on division by 4.
 abbrev pub PairsMade : ℕ → Result Pairs Refusal → Type 0

@@ -2,7 +2,6 @@
 #![tactic(auto)]
 
 mod lawful;
-mod modular;
 mod pairs;
 mod residues;
 

@@ -3,11 +3,13 @@ ghost use Rattle.std.specs.Prelude.{◌≡◌, ◌%◌, ◌≤◌};
 
 pub mod operations;
 
+use crate::residues::Residues;
+
 // The ring of pairs modulo p, for any p from 3 to 2,147,483,647 that leaves 3 on division by 4; lawful where p is a prime.
+// Its parts x and y are residues modulo p: those of the base, whose q is p.
 #[derive(Clone, Copy, PartialEq, Eq, Debug)]
 pub struct Pairs {
-    p: u64,
-    ghost low: { 3 ≤ p },
-    ghost high: { p ≤ 2147483647 },
-    ghost three: { p % 4 ≡ 3 },
+    base: Residues,
+    ghost low: { 3 ≤ base.q },
+    ghost three: { base.q % 4 ≡ 3 },
 }

@@ -1,16 +1,29 @@
 // The head call and the line call: room, order of the checks, texts, and what stays as found.
 use crate::samples::{BOOK, TRACK, changed, marked};
 use lists::{cut, head_line, list, mark_line};
+use refusals::Refusal;
 use std::process::Abort;
 use std::test::Fail;
 
-// The head call must write this text and nothing behind it.
-fn head_is(rt: &impl Abort, book: &[u8], track: &[u8], text: &[u8]) -> Result<(), Fail> {
+// The call must write this text and nothing behind it.
+fn writes<F: FnOnce(&mut [u8]) -> Result<usize, Refusal>>(
+    rt: &impl Abort,
+    text: &[u8],
+    call: F,
+) -> Result<(), Fail>
+    requires { F.IsAlwaysCallable call }
+{
     let mut line = [7u8; 100];
-    match head_line(book, track, &mut line) {
-        Ok(length) => stands(rt, &line, length, text),
-        Err(why) => Err(Fail::new(why.number())),
-    }
+    let length = call(&mut line)?;
+    assert_eq!(rt; length, text.len());
+    assert!(rt; length <= 96);
+    assert_eq!(rt; &line[0..length], text);
+    assert!(rt; line[length..].iter().all(|byte| *byte == 7));
+    Ok(())
+}
+
+fn head_is(rt: &impl Abort, book: &[u8], track: &[u8], text: &[u8]) -> Result<(), Fail> {
+    writes(rt, text, |line| head_line(book, track, line))
 }
 
 fn line_is(
@@ -20,21 +33,7 @@ fn line_is(
     number: u64,
     text: &[u8],
 ) -> Result<(), Fail> {
-    let mut line = [7u8; 100];
-    match mark_line(book, track, number, &mut line) {
-        Ok(length) => stands(rt, &line, length, text),
-        Err(why) => Err(Fail::new(why.number())),
-    }
-}
-
-fn stands(rt: &impl Abort, line: &[u8; 100], length: usize, text: &[u8]) -> Result<(), Fail> {
-    assert_eq!(rt; length, text.len());
-    assert!(rt; length <= 96);
-    assert_eq!(rt; &line[0..length], text);
-    for i in length..100 {
-        assert_eq!(rt; line[i], 7, "{}", i);
-    }
-    Ok(())
+    writes(rt, text, |line| mark_line(book, track, number, line))
 }
 
 // The line call must be refused, and write nothing.
@@ -44,16 +43,15 @@ fn line_refused(
     track: &[u8],
     number: u64,
     room: usize,
-    expected: u8,
-) -> Result<(), Fail> {
+    expected: Refusal,
+) {
     let mut line = [7u8; 100];
     assert!(rt; room <= 100);
-    match mark_line(book, track, number, &mut line[0..room]) {
-        Ok(_) => return Err(Fail::new("a line was written")),
-        Err(why) => assert_eq!(rt; why.number(), expected),
-    }
+    assert_eq!(rt;
+        mark_line(book, track, number, &mut line[0..room]),
+        Err(expected)
+    );
     assert!(rt; line == [7u8; 100]);
-    Ok(())
 }
 
 #[test]
@@ -74,8 +72,9 @@ fn the_example(rt: HostRuntime) -> Result<(), Fail> {
         b"1 94 place 26 other 71 joinings 16 tests 1\n",
     )?;
     line_is(&rt, BOOK, TRACK, 2, b"2 5 refused 13\n")?;
-    line_refused(&rt, BOOK, TRACK, 3, 100, 19)?;
-    line_refused(&rt, BOOK, TRACK, 18446744073709551615, 100, 19)
+    line_refused(&rt, BOOK, TRACK, 3, 100, Refusal::Line);
+    line_refused(&rt, BOOK, TRACK, 18446744073709551615, 100, Refusal::Line);
+    Ok(())
 }
 
 #[test]
@@ -94,20 +93,16 @@ fn heads_that_tell_of_a_refusal(rt: HostRuntime) -> Result<(), Fail> {
 
 // 15 comes before the book, the book before the track, and the track before 19.
 #[test]
-fn orders(rt: HostRuntime) -> Result<(), Fail> {
-    line_refused(&rt, &[], &[], 9, 95, 15)?;
-    line_refused(&rt, &[], &[], 9, 0, 15)?;
-    line_refused(&rt, &[], &[], 9, 96, 16)?;
-    line_refused(&rt, &changed(4, 98), &[], 9, 96, 2)?;
-    line_refused(&rt, BOOK, &[], 9, 96, 18)?;
-    line_refused(&rt, BOOK, TRACK, 3, 96, 19)?;
+fn orders(rt: HostRuntime) {
+    line_refused(&rt, &[], &[], 9, 95, Refusal::Room);
+    line_refused(&rt, &[], &[], 9, 0, Refusal::Room);
+    line_refused(&rt, &[], &[], 9, 96, Refusal::Format);
+    line_refused(&rt, &changed(4, 98), &[], 9, 96, Refusal::Size);
+    line_refused(&rt, BOOK, &[], 9, 96, Refusal::Track);
+    line_refused(&rt, BOOK, TRACK, 3, 96, Refusal::Line);
     let mut line = [7u8; 95];
-    match head_line(BOOK, TRACK, &mut line) {
-        Ok(_) => return Err(Fail::new("a line was written")),
-        Err(why) => assert_eq!(rt; why.number(), 15),
-    }
+    assert_eq!(rt; head_line(BOOK, TRACK, &mut line), Err(Refusal::Room));
     assert!(rt; line == [7u8; 95]);
-    Ok(())
 }
 
 // (mark, the text of its line as mark 0 modulo 97): marks at the modulus, at 2^31 and at the greatest word; 0.

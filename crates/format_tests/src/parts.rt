@@ -4,49 +4,24 @@ use books::{Book, Part};
 use std::process::Abort;
 use std::test::Fail;
 
-// What a part is: 0 for the head, 1 for an offset, 2 for a record; its place, and its bytes.
-fn seen(part: Part) -> (u8, usize, &[u8]) {
-    match part {
-        Part::Head(at, bytes) => (0, at, bytes),
-        Part::Offset(at, bytes) => (1, at, bytes),
-        Part::Record(at, bytes) => (2, at, bytes),
-    }
-}
-
-// The parts stand one behind the other, and are all of the book.
+// The parts stand one behind the other, each as long as its kind is, and are all of the book.
 fn tiles(rt: &impl Abort, bytes: &[u8]) -> Result<usize, Fail> {
-    let book = match Book::open(bytes) {
-        Ok(book) => book,
-        Err(why) => return Err(Fail::new(why.number())),
-    };
+    let book = Book::open(bytes)?;
     let mut place = 0;
-    let mut parts = 0;
-    for k in 0..20 {
-        let Some(part) = book.part(k) else {
-            continue;
+    for part in (0..20).filter_map(|k| book.part(k)) {
+        let (at, part, length) = match part {
+            Part::Head(at, part) => (at, part, 16),
+            Part::Offset(at, part) => (at, part, 4),
+            Part::Record(at, part) => (at, part, 8),
         };
-        let (kind, at, part) = seen(part);
         assert_eq!(rt; at, place);
-        assert_eq!(rt;
-            part.len(),
-            if kind == 0 {
-                16
-            } else if kind == 1 {
-                4
-            } else {
-                8
-            }
-        );
+        assert_eq!(rt; part.len(), length);
         assert!(rt; at <= bytes.len() && part.len() <= bytes.len() - at);
-        for i in 0..part.len() {
-            assert!(rt; i < part.len() && at + i < bytes.len());
-            assert_eq!(rt; part[i], bytes[at + i]);
-        }
+        assert_eq!(rt; part, &bytes[at..at + part.len()]);
         place = at + part.len();
-        parts = k + 1;
     }
     assert_eq!(rt; place, bytes.len());
-    Ok(parts)
+    Ok((0..20).filter_map(|k| book.part(k)).count())
 }
 
 #[test]
@@ -62,15 +37,11 @@ fn look_at_the_layout_alone(rt: HostRuntime) -> Result<(), Fail> {
     let mut book = *BOOK;
     book[4] = 1;
     assert_eq!(rt; tiles(&rt, &book)?, 3);
-    match Book::open(&book) {
-        Ok(book) => {
-            assert_eq!(rt; book.modulus(), 1);
-            assert_eq!(rt; book.fourth(), 22);
-            assert_eq!(rt; book.count(), 1);
-            assert!(rt; book.factor(1).is_none());
-            assert!(rt; book.part(3).is_none());
-            Ok(())
-        }
-        Err(why) => Err(Fail::new(why.number())),
-    }
+    let book = Book::open(&book)?;
+    assert_eq!(rt; book.modulus(), 1);
+    assert_eq!(rt; book.fourth(), Some(22));
+    assert_eq!(rt; book.count(), 1);
+    assert!(rt; book.factor(1).is_none());
+    assert!(rt; book.part(3).is_none());
+    Ok(())
 }

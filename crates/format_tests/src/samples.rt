@@ -1,8 +1,6 @@
 // Books and tracks to begin from, and what is asked of them.
 use books::load_book;
-use fields::Residues;
-use roots::Plan;
-use std::test::Fail;
+use refusals::Refusal;
 
 // Modulo 97, with the fourth root 22 and the factor 3 with ζ = 35.
 pub(crate) const BOOK: &[u8; 28] =
@@ -18,20 +16,9 @@ pub(crate) const EIGHT: &[u8; 112] =
 // The marks 2, 94 and 5.
 pub(crate) const TRACK: &[u8; 20] = b"\x03\0\0\0\x08\0\0\0\x02\0\0\0\x5e\0\0\0\x05\0\0\0";
 
-// 0 for a book that is loaded, else the number of its refusal.
-pub(crate) fn refused(book: &[u8]) -> u8 {
-    match load_book(book) {
-        Ok(_) => 0,
-        Err(why) => why.number(),
-    }
-}
-
-// The plan of a book that must load.
-pub(crate) fn plan(book: &[u8]) -> Result<Plan<Residues>, Fail> {
-    match load_book(book) {
-        Ok(plan) => Ok(plan),
-        Err(why) => Err(Fail::new(why.number())),
-    }
+// Why a book is refused, if it is.
+pub(crate) fn refused(book: &[u8]) -> Option<Refusal> {
+    load_book(book).err()
 }
 
 // One byte of a book changed.

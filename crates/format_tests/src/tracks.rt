@@ -1,14 +1,12 @@
 // Tracks: every length, the count and the offset.
 use crate::samples::TRACK;
 use lists::Track;
+use refusals::Refusal;
 use std::test::Fail;
 
-// The count of a track, or the number of its refusal.
-fn opened(track: &[u8]) -> Result<u32, u8> {
-    match Track::open(track) {
-        Ok(track) => Ok(track.count()),
-        Err(why) => Err(why.number()),
-    }
+// The count of a track, or why it is refused.
+fn opened(track: &[u8]) -> Result<u32, Refusal> {
+    Track::open(track).map(|track| track.count())
 }
 
 const LONG: &[u8; 40] =
@@ -18,11 +16,11 @@ const LONG: &[u8; 40] =
 fn truncated_and_extended(rt: HostRuntime) {
     let (track, long) = (TRACK.as_slice(), LONG.as_slice());
     for n in 0..20 {
-        assert_eq!(rt; opened(&track[0..n]), Err(18), "{}", n);
+        assert_eq!(rt; opened(&track[0..n]), Err(Refusal::Track), "{}", n);
     }
     assert_eq!(rt; opened(TRACK), Ok(3));
     for n in 21..41 {
-        assert_eq!(rt; opened(&long[0..n]), Err(18), "{}", n);
+        assert_eq!(rt; opened(&long[0..n]), Err(Refusal::Track), "{}", n);
     }
 }
 
@@ -34,16 +32,19 @@ fn counts(rt: HostRuntime) {
     assert_eq!(rt; opened(&track[0..8]), Ok(0));
     track[1] = 2;
     assert_eq!(rt; opened(&track[0..2056]), Ok(512));
-    assert_eq!(rt; opened(&track[0..2052]), Err(18));
-    assert_eq!(rt; opened(&track[0..2060]), Err(18));
+    assert_eq!(rt; opened(&track[0..2052]), Err(Refusal::Track));
+    assert_eq!(rt; opened(&track[0..2060]), Err(Refusal::Track));
     track[0] = 1;
-    assert_eq!(rt; opened(&track[0..2060]), Err(18));
+    assert_eq!(rt; opened(&track[0..2060]), Err(Refusal::Track));
 }
 
 #[test]
 fn great_counts(rt: HostRuntime) {
-    assert_eq!(rt; opened(&[255, 255, 255, 255, 8, 0, 0, 0]), Err(18));
-    assert_eq!(rt; opened(&[0, 0, 0, 64, 8, 0, 0, 0]), Err(18));
+    assert_eq!(rt;
+        opened(&[255, 255, 255, 255, 8, 0, 0, 0]),
+        Err(Refusal::Track)
+    );
+    assert_eq!(rt; opened(&[0, 0, 0, 64, 8, 0, 0, 0]), Err(Refusal::Track));
     assert_eq!(rt; opened(&[0, 0, 0, 0, 8, 0, 0, 0]), Ok(0));
 }
 
@@ -53,22 +54,18 @@ fn offsets(rt: HostRuntime) {
         let mut track = *TRACK;
         assert!(rt; at < 20);
         track[at] = byte;
-        assert_eq!(rt; opened(&track), Err(18), "{}", byte);
+        assert_eq!(rt; opened(&track), Err(Refusal::Track), "{}", byte);
     }
 }
 
 #[test]
 fn marks(rt: HostRuntime) -> Result<(), Fail> {
-    match Track::open(TRACK) {
-        Ok(track) => {
-            assert_eq!(rt; track.mark(0), Some(2));
-            assert_eq!(rt; track.mark(2), Some(5));
-            assert_eq!(rt; track.mark(3), None);
-            assert_eq!(rt; track.mark(18446744073709551615), None);
-            let marks = track.marks(rt.alloc())?;
-            assert!(rt; marks.as_slice() == [2u32, 94, 5].as_slice());
-            Ok(())
-        }
-        Err(why) => Err(Fail::new(why.number())),
-    }
+    let track = Track::open(TRACK)?;
+    assert_eq!(rt; track.mark(0), Some(2));
+    assert_eq!(rt; track.mark(2), Some(5));
+    assert_eq!(rt; track.mark(3), None);
+    assert_eq!(rt; track.mark(18446744073709551615), None);
+    let marks = track.marks(rt.alloc())?;
+    assert!(rt; marks.as_slice() == [2u32, 94, 5].as_slice());
+    Ok(())
 }

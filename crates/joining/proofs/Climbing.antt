@@ -10,7 +10,6 @@ use Rattle.theory.proofs.Powers.{rung_0, rung_suc, rung_reduced}
 use Rattle.theory.proofs.Bits.{joinings_few}
 use Rattle.theory.proofs.Search.{turn_here, turn_later, turn_none, first_same}
 use Rattle.joining.specs.declared.Back.{Back}
-use Rattle.joining.specs.declared.Back.TheVariants.{One, Two}
 use Rattle.joining.specs.declared.JoiningFault.TheVariants.{NoRank}
 use Rattle.joining.specs.Ladder.{places, laddered, laddered_at}
 
@@ -93,16 +92,9 @@ module _ {E : Type 0} (o : Operation E) (x : E) (by length k : ℕ) (here : E) (
 
   -- What the ladder answers. It begins at what an element e counts as, and is answered as the ladder from e.
   module _ (laws : OperationLaws o) (e : E) (reduced : x ≡ o.join o.neutral e) (back : Back) (code : ℕ) where
-    pub answer_one : back ≡ One → o.spent here ≡ true → Ok (one, count) ≡ laddered o e by length back code
-    answer_one b spent =
-        ap₂ (λ r n. Ok (r, n)) c.one_back c.joined ∙ sym (ap (laddered_at o x by One code) (ranked spent))
-        ∙ ap (λ (r : Back). laddered o x by length r code) (sym b)
-        ∙ laddered_reduced o laws e x by length back code reduced
-
-    pub answer_two : back ≡ Two → o.spent here ≡ true → Ok (two, count) ≡ laddered o e by length back code
-    answer_two b spent =
-        ap₂ (λ r n. Ok (r, n)) c.two_back c.joined ∙ sym (ap (laddered_at o x by Two code) (ranked spent))
-        ∙ ap (λ (r : Back). laddered o x by length r code) (sym b)
+    pub answer_rung : (rung : Option E) → rung ≡ before o x by (places back) k → o.spent here ≡ true → Ok (rung, count) ≡ laddered o e by length back code
+    answer_rung rung is spent =
+        ap₂ (λ r n. Ok (r, n)) is c.joined ∙ sym (ap (laddered_at o x by back code) (ranked spent))
         ∙ laddered_reduced o laws e x by length back code reduced
 
     pub answer_none : length ≤ k → o.spent here ≡ false → Err (NoRank by code) ≡ laddered o e by length back code

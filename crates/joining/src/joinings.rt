@@ -1,19 +1,11 @@
 // The two joinings that a ring gives. They borrow the ring.
-ghost use Rattle.std.specs.Prelude.{◌≡◌, ◌%◌};
+ghost use Rattle.std.specs.Prelude.{◌≡◌};
 ghost use Rattle.theory.proofs.JoiningLaws.{multiplication_laws, ratios_laws};
 ghost use Rattle.theory.specs.Operation.{multiplication, ratios};
 
 use super::Joining;
 use ring::Ring;
 use theory::Ratio;
-
-// The remainder of a code by the size. A code that is below the size costs no division.
-fn remainder<R: Ring>(ring: &R, code: u64) -> u64
-    ensures { result ≡ code % (R.Ring.meaning ring.now).size }
-{
-    let size = ring.size();
-    if code < size { code } else { code % size }
-}
 
 // The numbers of a ring under multiplication: a code is its own element, and 1 is spent.
 #[derive_where(Clone, Copy)]
@@ -45,11 +37,11 @@ impl<'a, R: Ring> Joining for Multiplication<'a, R> {
     }
 
     fn reduced(&self, a: u64) -> u64 {
-        remainder(self.ring, a)
+        self.ring.remainder(a)
     }
 
     fn is_spent(&self, a: u64) -> bool {
-        remainder(self.ring, a) == 1
+        self.ring.remainder(a) == 1
     }
 
     fn element(&self, code: u64) -> u64 {
@@ -60,8 +52,8 @@ impl<'a, R: Ring> Joining for Multiplication<'a, R> {
 // The ratios for a mark: the element of a code g is g : 1, and a ratio with the bottom 0 is spent.
 #[derive_where(Clone, Copy)]
 pub struct Ratios<'a, R: Ring> {
-    ring: &'a R,
-    mark: u64,
+    pub ring: &'a R,
+    pub mark: u64,
 }
 
 impl<'a, R: Ring> Ratios<'a, R> {
@@ -97,13 +89,13 @@ impl<'a, R: Ring> Joining for Ratios<'a, R> {
 
     fn reduced(&self, a: Ratio) -> Ratio {
         Ratio {
-            top: remainder(self.ring, a.top),
-            bottom: remainder(self.ring, a.bottom),
+            top: self.ring.remainder(a.top),
+            bottom: self.ring.remainder(a.bottom),
         }
     }
 
     fn is_spent(&self, a: Ratio) -> bool {
-        remainder(self.ring, a.bottom) == 0
+        self.ring.remainder(a.bottom) == 0
     }
 
     fn element(&self, code: u64) -> Ratio {

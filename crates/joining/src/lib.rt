@@ -11,7 +11,7 @@ mod powers;
 mod quotients;
 
 pub use joinings::{Multiplication, Ratios};
-pub use ladders::{climb, ladder};
+pub use ladders::Ladder;
 pub use powers::power;
 pub use quotients::quotient;
 use ring::RingFault;

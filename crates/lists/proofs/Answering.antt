@@ -1,55 +1,60 @@
 -- What the two calls answer and leave, from what they come to.
-use Rattle.std.proofs.Common.{◌≡◌, ℕ, ◌+◌, ◌*◌, ◌<◌, ◌≤◌, Bool, true, false, cond, ltb, leb, List, [], length, Some, None, Ok, Err, Result, sym, refl, ap, ◌∙◌, ap₂, arith}
-use Rattle.std.proofs.lemmas.Bool.{ltb-true, lt-leb, le-ltb, lt-ltb}
-use Rattle.refusals.specs.Number.{numbered}
+use Rattle.std.proofs.Common.{◌≡◌, ℕ, ◌+◌, ◌*◌, ◌<◌, ◌≤◌, Bool, true, false, cond, ltb, leb, List, [], length, Some, None, Ok, Err, Result, min, sym, refl, ap, ◌∙◌, ap₂, subst, ⊎_elim, arith}
+use Rattle.std.specs.Result.{IfOk}
+use Rattle.std.proofs.lemmas.Bool.{cases_lt, ltb-true, lt-leb, le-ltb, lt-ltb}
 use Rattle.refusals.specs.declared.Refusal.{Refusal}
 use Rattle.refusals.specs.declared.Refusal.TheVariants.{Room, Line}
 use Rattle.roots.specs.Drafts.{refuse}
 use Rattle.roots.proofs.Passes.{through}
-use Rattle.octets.specs.Buffers.{joined, laid_over}
+use Rattle.octets.specs.Buffers.{joined}
 use Rattle.octets.specs.Words.{word_at, word_in}
 use Rattle.octets.proofs.Joined.{joined_all, laid_whole}
 use Rattle.books.specs.Loading.{Bound}
 use Rattle.books.specs.Output.{Written, left_by, length_by}
-use Rattle.lists.specs.Calls.{code_by, lined, rooted_text}
+use Rattle.lists.specs.Calls.{LaidOver, lined, rooted_text}
 use Rattle.lists.specs.Tracks.{mark_at, mark_in}
 
--- ---- a refused call
+-- ---- a call that checks the room and then lays its line over the output
 
--- want of room is refused before anything else
-pub no_room : (room : ℕ) (otherwise : Written) → room < 96 → refuse (ltb room 96) Room otherwise ≡ Err Room
+-- the call comes to the refusal for want of room, or else to its line
+no_room : (room : ℕ) (otherwise : Written) → room < 96 → refuse (ltb room 96) Room otherwise ≡ Err Room
 no_room room otherwise short = ap (λ (b : Bool). refuse b Room otherwise) (lt-ltb room 96 short)
 
-pub some_room : (room : ℕ) (otherwise : Written) → 96 ≤ room → refuse (ltb room 96) Room otherwise ≡ otherwise
+some_room : (room : ℕ) (otherwise : Written) → 96 ≤ room → refuse (ltb room 96) Room otherwise ≡ otherwise
 some_room room otherwise enough = through (ltb room 96) Room otherwise (le-ltb room 96 enough)
 
-module _ (outcome : Written) (out : List ℕ) where
-  pub refused_value : (why : Refusal) → outcome ≡ Err why → Err why ≡ length_by outcome
-  refused_value why e = sym (ap length_by e)
+-- the answer of a call, what it leaves, and the length of its line
+abbrev pub Called : Written → List ℕ → Result ℕ Refusal → List ℕ → Type 0
+Called outcome out answer after = (answer ≡ length_by outcome) × (after ≡ left_by outcome out) × IfOk answer (λ n. n ≤ 96)
 
-  pub refused_after : (why : Refusal) → outcome ≡ Err why → out ≡ left_by outcome out
-  refused_after why e = sym (ap (λ (w : Written). left_by w out) e)
+laid : (outcome : Written) (out after : List ℕ) (answer : Result ℕ Refusal) → 96 ≤ length out → IfOk outcome (λ text. length text ≤ 96) → LaidOver outcome out answer after → Called outcome out answer after
+laid (Err why) out after answer room fits is = (is.0, is.1, subst (λ r. IfOk r (λ n. n ≤ 96)) (sym is.0) tt)
+laid (Ok text) out after answer room fits is =
+    let all : min (length text) (length out) ≡ length text = omega arith in
+    let value = is.0 ∙ ap (λ n. Ok n) all in
+    (value, is.1 ∙ laid_whole text out (omega arith), subst (λ r. IfOk r (λ n. n ≤ 96)) (sym value) fits)
 
--- the number that C is answered
-pub refused_code : (outcome : Written) (why : Refusal) → Err why ≡ length_by outcome → numbered why ≡ code_by outcome
-refused_code (Ok text) why e = let z : ◌≡◌ {A = ℕ} 0 1 = cc in absurd (omega arith)
-refused_code (Err other) why e = let same : ◌≡◌ {A = Refusal} why other = cc in ap numbered same
+pub called : (outcome : Written) (out after : List ℕ) (answer : Result ℕ Refusal)
+    → (length out < 96 → (answer ≡ Err Room) × (after ≡ out))
+    → (96 ≤ length out → (text : Written) × (text ≡ outcome) × LaidOver text out answer after)
+    → IfOk outcome (λ text. length text ≤ 96) → Called (refuse (ltb (length out) 96) Room outcome) out answer after
+called outcome out after answer short long fits = ⊎_elim refused wrote (cases_lt (length out) 96)
+  where
+    refused : length out < 96 → Called (refuse (ltb (length out) 96) Room outcome) out answer after
+    refused less =
+        let r = short less in
+        subst (λ w. Called w out answer after) (sym (no_room (length out) outcome less)) (r.0, r.1, subst (λ a. IfOk a (λ n. n ≤ 96)) (sym r.0) tt)
 
--- ---- a line
+    wrote : 96 ≤ length out → Called (refuse (ltb (length out) 96) Room outcome) out answer after
+    wrote room =
+        let m = long room in
+        subst (λ w. Called w out answer after) (sym (some_room (length out) outcome room))
+        (laid outcome out after answer room fits (subst (λ w. LaidOver w out answer after) m.1 m.2))
 
-module _ (outcome : Written) (out text buffer : List ℕ) (is : outcome ≡ Ok text) (holds : buffer ≡ joined [] text) (fits : length text ≤ 96) (room : 96 ≤ length out) where
-  whole : buffer ≡ text
-  whole = holds ∙ joined_all [] text (omega arith)
+-- ---- a line that fits is held whole
 
-  pub line_value : Ok (length buffer) ≡ length_by outcome
-  line_value = ap (λ (b : List ℕ). Ok (length b)) whole ∙ sym (ap length_by is)
-
-  pub line_fits : length buffer ≤ 96
-  line_fits = omega (arith, ap length whole)
-
-  pub line_after : laid_over buffer out ≡ left_by outcome out
-  line_after =
-      ap (λ (b : List ℕ). laid_over b out) whole ∙ laid_whole text out (omega arith) ∙ sym (ap (λ (w : Written). left_by w out) is)
+pub held_whole : (text buffer : List ℕ) → buffer ≡ joined [] text → length text ≤ 96 → buffer ≡ text
+held_whole text buffer holds fits = holds ∙ joined_all [] text (omega arith)
 
 -- ---- the mark of a line
 

@@ -1,5 +1,5 @@
 -- The head line is one line.
-use Rattle.std.proofs.Common.{◌≡◌, ℕ, ◌+◌, ◌-◌, ◌*◌, ◌^◌, ◌<◌, ◌≤◌, true, ltb, List, length, Ok, Err, codes, Result, sym, refl, subst, arith}
+use Rattle.std.proofs.Common.{◌≡◌, ℕ, ◌+◌, ◌-◌, ◌*◌, ◌^◌, ◌<◌, ◌≤◌, true, ltb, List, [], length, Ok, Err, codes, Result, sym, refl, subst, arith}
 use Rattle.theory.specs.Numbers.{Divides}
 use Rattle.theory.specs.Residues.{residues}
 use Rattle.theory.proofs.Divisors.{divides_self, divides_multiple, divides_bound}
@@ -13,6 +13,7 @@ use Rattle.roots.specs.State.{State, twos}
 use Rattle.roots.proofs.Accepted.{refuse_passed}
 use Rattle.roots.proofs.Rebuilt.{run_few}
 use Rattle.roots.proofs.Runs.{runs_keep}
+use Rattle.octets.specs.Buffers.{joined}
 use Rattle.books.specs.Loading.{Bound, loaded}
 use Rattle.books.specs.RoundTrip.{Reached}
 use Rattle.books.proofs.Checked.{loaded_runs}
@@ -20,6 +21,7 @@ use Rattle.lists.specs.Calls.{headed, line_of_head}
 use Rattle.lists.specs.Laws.{OneLine, HeadLines}
 use Rattle.lists.specs.Texts.{noted, line_end, text_of_head, text_of_refused}
 use Rattle.lists.specs.Tracks.{tracked}
+use Rattle.lists.proofs.Answering.{held_whole}
 use Rattle.lists.proofs.Plain.{Ends, worded, plain_noted, ends_here, ends_later, one_line}
 use Rattle.lists.proofs.Refused.{plain_refused}
 
@@ -55,13 +57,17 @@ refused_line : (m : ℕ) (words : List ℕ) → m ≤ 93 → worded m words ≡ 
 refused_line m words low e why =
     one_line (m + 2 + 0) _ (omega arith) (ends_later (m + 2) 0 _ line_end (plain_refused m words e why) ends_here)
 
-head_lined : (book track : List ℕ) → OneLine (line_of_head book track)
+pub head_lined : (book track : List ℕ) → OneLine (line_of_head book track)
 head_lined book track = from (loaded book) refl (tracked track)
   where
     from : (o : Result Bound Refusal) → loaded book ≡ o → (n : Result ℕ Refusal) → OneLine (headed o n)
     from (Err why) is n = refused_line 13 (codes "book refused ") (omega arith) refl why
     from (Ok p) is (Err why) = refused_line 14 (codes "track refused ") (omega arith) refl why
     from (Ok p) is (Ok count) = loaded_head p.0 p.1 (loaded_runs book p.0 p.1 is)
+
+-- a buffer into which the line was put holds all of it
+pub head_held : (book track buffer : List ℕ) → buffer ≡ joined [] (line_of_head book track) → buffer ≡ line_of_head book track
+head_held book track buffer holds = held_whole (line_of_head book track) buffer holds (head_lined book track).fits
 
 pub head_lines : HeadLines
 head_lines book track room text e =

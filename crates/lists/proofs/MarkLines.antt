@@ -1,6 +1,7 @@
 -- The line of a mark is one line.
 use Rattle.std.proofs.Common.{◌≡◌, ℕ, ◌+◌, ◌*◌, ◌^◌, ◌<◌, ◌≤◌, not, ltb, leb, List, length, Ok, Err, codes, decimal, Result, sym, refl, subst, arith}
 use Rattle.std.proofs.lemmas.Bool.{not-false, leb-true, leb-false, and_parts}
+use Rattle.std.specs.Result.{IfOk}
 use Rattle.theory.specs.Residues.{residues}
 use Rattle.refusals.specs.declared.Refusal.{Refusal}
 use Rattle.refusals.specs.declared.Refusal.TheVariants.{Room, Track as BadTrack, Line}
@@ -63,3 +64,10 @@ mark_lines book track all k room text e =
         let same : ◌≡◌ {A = Result (List ℕ) Refusal} (Ok (rooted_text p k mark)) (Ok text) = below.1 in
         let is-text : rooted_text p k mark ≡ text = cc in
         subst OneLine is-text (rooted_line p.0 p.1 (loaded_runs book p.0 p.1 is) k mark low (mark_small track all k))
+
+pub mark_fits : (book track : List ℕ) → Bytes track → (k : ℕ) → IfOk (lined (loaded book) (tracked track) track k) (λ text. length text ≤ 96)
+mark_fits book track all k = from (lined (loaded book) (tracked track) track k) refl
+  where
+    from : (outcome : Result (List ℕ) Refusal) → lined (loaded book) (tracked track) track k ≡ outcome → IfOk outcome (λ text. length text ≤ 96)
+    from (Err why) is = tt
+    from (Ok text) is = (mark_lines book track all k 96 text is).fits

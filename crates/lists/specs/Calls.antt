@@ -1,13 +1,12 @@
 -- What the head call and the line call come to. Each checks the room first, then loads the book, then checks the track.
-use Rattle.std.specs.Prelude.{◌≡◌, ℕ, zero, suc, Bool, true, false, List, [], ◌++◌, Ok, Err, codes, Result, nat_le, nat_lt}
+use Rattle.std.specs.Prelude.{◌≡◌, ℕ, zero, suc, min, List, [], ◌++◌, length, take, Some, None, Ok, Err, codes, Option, Result, nat_le, nat_lt}
 use Rattle.theory.specs.Residues.{residues}
 use Rattle.refusals.specs.Number.{numbered}
 use Rattle.refusals.specs.declared.Refusal.{Refusal}
 use Rattle.refusals.specs.declared.Refusal.TheVariants.{Room, Line}
 use Rattle.roots.specs.Drafts.{refuse}
 use Rattle.roots.specs.Rooting.{rooted, answered}
-use Rattle.octets.specs.declared.buffer.Buffer.{Buffer}
-use Rattle.octets.specs.Buffers.{held, joined}
+use Rattle.octets.specs.Buffers.{laid_over}
 use Rattle.books.specs.Loading.{Bound, loaded}
 use Rattle.books.specs.Output.{Written}
 use Rattle.lists.specs.Texts.{text_of_head, text_of_refused, text_of_mark}
@@ -37,20 +36,25 @@ lined (Ok p) (Ok count) track k = refuse (nat_le count k) Line (Ok (rooted_text 
 abbrev pub mark_called : List ℕ → List ℕ → ℕ → ℕ → Written
 mark_called book track k room = refuse (nat_lt room 96) Room (lined (loaded book) (tracked track) track k)
 
--- What making a line answers: a buffer that holds it, or the refusal.
-abbrev pub Lines : Written → Result Buffer Refusal → Type 0
-Lines outcome (Ok b) = (text : List ℕ) × (outcome ≡ Ok text) × (held b ≡ joined [] text)
-Lines outcome (Err why) = outcome ≡ Err why
+-- What laying a text over an output answers and leaves, where there is one to lay.
+abbrev pub LaidOver : Written → List ℕ → Result ℕ Refusal → List ℕ → Type 0
+LaidOver (Ok text) before answer after = (answer ≡ Ok (min (length text) (length before))) × (after ≡ laid_over text before)
+LaidOver (Err why) before answer after = (answer ≡ Err why) × (after ≡ before)
 
 -- the number that a call answers in C: 0, or that of the refusal
 abbrev pub code_by : Written → ℕ
 code_by (Ok text) = 0
 code_by (Err why) = numbered why
 
--- What putting the line of a call behind some bytes leaves, and whether there was a line.
-abbrev pub Puts : Written → List ℕ → Bool → List ℕ → Type 0
-Puts (Ok text) before more after = (more ≡ true) × (after ≡ before ++ text)
-Puts (Err why) before more after = (more ≡ false) × (after ≡ before)
+-- What putting the line of a call behind some bytes leaves, and how long that line is; none where the call is refused.
+abbrev pub Puts : Written → List ℕ → Option ℕ → List ℕ → Type 0
+Puts (Ok text) before put after = (put ≡ Some (length text)) × (after ≡ before ++ text)
+Puts (Err why) before put after = (put ≡ None) × (after ≡ before)
+
+-- The same of a call that answers a length and leaves some bytes: its line is their front.
+abbrev pub PutsFront : Result ℕ Refusal → List ℕ → List ℕ → Option ℕ → List ℕ → Type 0
+PutsFront (Ok n) line before put after = (put ≡ Some n) × (after ≡ before ++ take n line)
+PutsFront (Err why) line before put after = (put ≡ None) × (after ≡ before)
 
 -- The lines of so many marks from mark k on, up to the first call that is refused.
 unfoldable pub lines_from : List ℕ → List ℕ → ℕ → ℕ → List ℕ

@@ -1,9 +1,10 @@
 // The two calls that everything else uses, on byte slices and without a heap: the head line of a list, and the line of one mark.
-ghost use Rattle.std.specs.Prelude.{◌≡◌, ◌≤◌, [], length, IfOk};
-ghost use Rattle.octets.specs.Buffers.{held, joined};
+// A book and a track stay two slices throughout, as the C interface hands them over.
+ghost use Rattle.std.specs.Prelude.{◌≡◌, ◌<◌, ◌≤◌, length, Err, IfOk};
+ghost use Rattle.refusals.specs.declared.Refusal.TheVariants.{Room};
 ghost use Rattle.books.specs.Loading.{loaded};
-ghost use Rattle.books.specs.Output.{left_by, length_by};
-ghost use Rattle.lists.specs.Calls.{Lines, head_called, line_of_head, lined, mark_called};
+ghost use Rattle.books.specs.Output.{Written, left_by, length_by};
+ghost use Rattle.lists.specs.Calls.{LaidOver, head_called, line_of_head, lined, mark_called};
 ghost use Rattle.lists.specs.Example.{Example};
 ghost use Rattle.lists.specs.Laws.{HeadLines, LinesExact, MarkLines};
 ghost use Rattle.lists.specs.Tracks.{tracked};
@@ -19,7 +20,7 @@ const LINE: usize = 96;
 
 // What the book holds, or that the book or the track was refused.
 fn head_of(book: &[u8], track: &[u8]) -> Buffer
-    ensures { held result ≡ joined [] (line_of_head book.now track.now) }
+    ensures { result ≡ line_of_head book.now track.now }
 {
     match load_book(book) {
         Err(why) => refused_text(b"book refused ", why),
@@ -32,15 +33,27 @@ fn head_of(book: &[u8], track: &[u8]) -> Buffer
 
 // The line of one mark, or why there is none.
 fn line_of(book: &[u8], track: &[u8], number: u64) -> Result<Buffer, Refusal>
-    ensures { Lines (lined (loaded book.now) (tracked track.now) track.now number) result }
+    ensures { result ≡ lined (loaded book.now) (tracked track.now) track.now number }
 {
     let plan = load_book(book)?;
     let marks = Track::open(track)?;
-    let Some(mark) = marks.mark(number) else {
-        return Err(Refusal::Line);
-    };
-    let mark = u64::from(mark);
+    let mark = u64::from(marks.mark(number).ok_or(Refusal::Line)?);
     Ok(mark_text(number, mark, plan.root(mark)))
+}
+
+// Lays the text that is made over the front of the output, if that has room for any line, and answers its length.
+fn written<F: FnOnce() -> Result<Buffer, Refusal>>(
+    line: &mut [u8],
+    make: F,
+) -> Result<usize, Refusal>
+    requires { F.IsAlwaysCallable make }
+    ensures room { length line.old < 96 → (result ≡ Err Room) × (line.new ≡ line.old) }
+    ensures made { 96 ≤ length line.old → (text : Written) × F.post make text × LaidOver text line.old result line.new }
+{
+    if line.len() < LINE {
+        return Err(Refusal::Room);
+    }
+    Ok(make()?.lay_over(line))
 }
 
 // Writes the head line over the front of the output, and answers its length. Only want of room is refused: of a book or a track that
@@ -52,12 +65,7 @@ pub fn head_line(book: &[u8], track: &[u8], line: &mut [u8]) -> Result<usize, Re
     ensures laws { HeadLines }
     ensures worked { Example }
 {
-    if line.len() < LINE {
-        return Err(Refusal::Room);
-    }
-    let text = head_of(book, track);
-    text.lay_over(line);
-    Ok(text.as_slice().len())
+    written(line, || Ok(head_of(book, track)))
 }
 
 // Writes the line of the mark with the given number, from 0, over the front of the output, and answers its length. A refused call writes
@@ -69,10 +77,5 @@ pub fn mark_line(book: &[u8], track: &[u8], number: u64, line: &mut [u8]) -> Res
     ensures laws { MarkLines }
     ensures exact { LinesExact }
 {
-    if line.len() < LINE {
-        return Err(Refusal::Room);
-    }
-    let text = line_of(book, track, number)?;
-    text.lay_over(line);
-    Ok(text.as_slice().len())
+    written(line, || line_of(book, track, number))
 }

@@ -1,23 +1,14 @@
 -- What a buffer holds after one piece and then another.
 use Rattle.std.proofs.Common.{◌≡◌, ℕ, zero, suc, ◌+◌, ◌<◌, ◌≤◌, min, List, [], ◌∷◌, ◌++◌, length, take, drop, sym, refl, ap, ◌∙◌, ⊎_elim, append_assoc, arith}
-use Rattle.std.proofs.lemmas.List.{append-nil, length-append, length-drop, length-take-le, take_all, take-append-le, take-take, drop_all}
+use Rattle.std.proofs.lemmas.List.{append-nil, length-append, length-drop, take_all, take-append-le, take_min, drop_all}
+use Rattle.std.proofs.Math.Seq.{take-append-add}
 use Rattle.std.proofs.lemmas.Bool.{cases_lt}
-use Rattle.octets.specs.declared.buffer.Buffer.{Buffer}
-use Rattle.octets.specs.Buffers.{held, joined, laid_over}
-
--- a buffer holds at most what it has room for
-pub held_few : (b : Buffer) → length (held b) ≤ 112
-held_few b = omega (arith, length-take-le b.count b.bytes (omega (arith, b.room, b.whole)), b.room)
+use Rattle.octets.specs.Buffers.{joined, laid_over}
 
 take_twice : (n : ℕ) (xs ys : List ℕ) → take n (take n xs ++ ys) ≡ take n (xs ++ ys)
 take_twice zero xs ys = refl
 take_twice (suc n) [] ys = refl
 take_twice (suc n) (x ∷ xs) ys = ap (λ t. x ∷ t) (take_twice n xs ys)
-
--- nothing added
-pub joined_none : (xs : List ℕ) → length xs ≤ 112 → joined xs [] ≡ xs
-unfolding joined
-joined_none xs room = ap (take 112) (append-nil xs) ∙ take_all 112 xs room
 
 -- where there is room, the piece stands behind what was held
 pub joined_all : (xs ys : List ℕ) → length xs + length ys ≤ 112 → joined xs ys ≡ xs ++ ys
@@ -29,20 +20,25 @@ pub joined_full : (xs ys : List ℕ) → length xs ≡ 112 → joined xs ys ≡ 
 unfolding joined
 joined_full xs ys full = take-append-le 112 xs ys (omega arith) ∙ take_all 112 xs (omega arith)
 
+-- where there is room for a part, a front of the piece does
+pub joined_front : (xs ys : List ℕ) (room n : ℕ) → room + length xs ≡ 112 → n ≡ min (length ys) room → xs ++ take n ys ≡ joined xs ys
+unfolding joined
+joined_front xs ys room n whole least =
+    let same : n ≡ min room (length ys) = omega arith in
+    let all : 112 ≡ length xs + room = omega arith in
+    ap (λ k. xs ++ take k ys) same ∙ ap (λ f. xs ++ f) (take_min room ys)
+    ∙ sym (take-append-add xs ys room) ∙ ap (λ k. take k (xs ++ ys)) (sym all)
+
 -- one piece and then another are both in a row
 pub joined_joined : (xs ys zs : List ℕ) → joined (joined xs ys) zs ≡ joined xs (ys ++ zs)
 unfolding joined
 joined_joined xs ys zs = take_twice 112 (xs ++ ys) zs ∙ ap (take 112) (append_assoc xs ys zs)
 
--- several pieces, one behind the other
-pub joined_two : (before one two x y : List ℕ) → one ≡ joined before x → two ≡ joined one y → two ≡ joined before (x ++ y)
-joined_two before one two x y a b = b ∙ ap (λ (h : List ℕ). joined h y) a ∙ joined_joined before x y
-
-pub joined_three : (before one two three x y z : List ℕ) → one ≡ joined before x → two ≡ joined one y → three ≡ joined two z → three ≡ joined before (x ++ (y ++ z))
-joined_three before one two three x y z a b c = joined_two before one three x (y ++ z) a (joined_two one two three y z b c)
-
+-- four pieces, one behind the other
 pub joined_four : (before one two three four x y z w : List ℕ) → one ≡ joined before x → two ≡ joined one y → three ≡ joined two z → four ≡ joined three w → four ≡ joined before (x ++ (y ++ (z ++ w)))
-joined_four before one two three four x y z w a b c d = joined_two before one four x (y ++ (z ++ w)) a (joined_three one two three four y z w b c d)
+joined_four before one two three four x y z w a b c d =
+    d ∙ ap (λ (h : List ℕ). joined h w) (c ∙ ap (λ (h : List ℕ). joined h z) b) ∙ ap (λ (h : List ℕ). joined (joined (joined h y) z) w) a
+    ∙ joined_joined (joined (joined before x) y) z w ∙ joined_joined (joined before x) y (z ++ w) ∙ joined_joined before x (y ++ (z ++ w))
 
 -- a piece is laid over bytes of its length or more
 pub laid_whole : (front bytes : List ℕ) → length front ≤ length bytes → laid_over front bytes ≡ front ++ drop (length front) bytes
@@ -51,23 +47,19 @@ laid_whole front bytes room =
     take_all (length bytes) (front ++ drop (length front) bytes) (simp (length-append, length-drop) (omega arith))
 
 -- The same for a piece that is longer, of which only a front is written.
-pub laid_front : (items out part : List ℕ) (count n : ℕ) → count ≤ length items → n ≡ min count (length out) → part ≡ take n items → part ++ drop n out ≡ laid_over (take count items) out
+pub laid_front : (front out : List ℕ) (n : ℕ) → n ≡ min (length front) (length out) → take n front ++ drop n out ≡ laid_over front out
 unfolding laid_over
-laid_front items out part count n fits least is = ⊎_elim short long (cases_lt (length out) count)
+laid_front front out n least = ⊎_elim short long (cases_lt (length out) (length front))
   where
-    all : length (take count items) ≡ count
-    all = length-take-le count items fits
-
-    long : count ≤ length out → part ++ drop n out ≡ laid_over (take count items) out
+    long : length front ≤ length out → take n front ++ drop n out ≡ laid_over front out
     long room =
-        let same : n ≡ count = omega arith in
-        ap (λ p. p ++ drop n out) is ∙ ap (λ k. take k items ++ drop k out) same
-        ∙ ap (λ k. take count items ++ drop k out) (sym all) ∙ sym (laid_whole (take count items) out (omega (arith, all)))
+        let same : n ≡ length front = omega arith in
+        ap (λ k. take k front ++ drop k out) same ∙ ap (λ f. f ++ drop (length front) out) (take_all (length front) front (omega arith))
+        ∙ sym (laid_whole front out room)
 
-    short : length out < count → part ++ drop n out ≡ laid_over (take count items) out
+    short : length out < length front → take n front ++ drop n out ≡ laid_over front out
     short over =
         let same : n ≡ length out = omega arith in
-        ap (λ p. p ++ drop n out) is ∙ ap (λ k. take k items ++ drop k out) same
-        ∙ ap (λ d. take (length out) items ++ d) (drop_all (length out) out (omega arith)) ∙ append-nil (take (length out) items)
-        ∙ sym (take-append-le (length out) (take count items) (drop (length (take count items)) out) (omega (arith, all))
-        ∙ take-take (length out) count items (omega arith))
+        ap (λ k. take k front ++ drop k out) same ∙ ap (λ d. take (length out) front ++ d) (drop_all (length out) out (omega arith))
+        ∙ append-nil (take (length out) front)
+        ∙ sym (take-append-le (length out) front (drop (length front) out) (omega arith))

@@ -1,9 +1,5 @@
 -- What a buffer holds, and what writing to it leaves.
 use Rattle.std.specs.Prelude.{ℕ, List, ◌++◌, length, take, drop}
-use Rattle.octets.specs.declared.buffer.Buffer.{Buffer}
-
-abbrev pub held : Buffer → List ℕ
-held b = take b.count b.bytes
 
 -- some bytes behind what is held; a buffer has room for 112 bytes, and leaves out the others
 unfoldable pub joined : List ℕ → List ℕ → List ℕ

@@ -1,5 +1,10 @@
 -- Words in bytes: a word is four bytes, low byte first, and half a word is two.
-use Rattle.std.specs.Prelude.{ℕ, ◌+◌, ◌*◌, ◌/◌, ◌%◌, cond, List, [], ◌∷◌, length, Some, None, Option, nat_le, slice_index}
+use Rattle.std.specs.Prelude.{ℕ, ◌+◌, ◌*◌, ◌/◌, ◌%◌, cond, List, [], ◌∷◌, length, Some, None, Option, nat_le, slice_index, take}
+use Rattle.std.specs.Int.{w64, to_le_bytes}
+
+-- the low k bytes of a number below 2 ^ 64, the lowest first; all eight where k is above 8
+abbrev pub low_bytes : ℕ → ℕ → List ℕ
+low_bytes k n = take k (to_le_bytes w64 n)
 
 -- the low four bytes of a number, and its low two: all of a number below 2 ^ 32, or below 2 ^ 16
 abbrev pub word : ℕ → List ℕ

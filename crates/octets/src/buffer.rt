@@ -1,12 +1,19 @@
 // A buffer that holds up to 112 bytes: the longest book has 16 + 12 × 8, the longest line fewer.
-ghost use Rattle.std.specs.Prelude.{◌≡◌, ◌≤◌, length};
-
 mod writing;
 
-#[derive(Clone, Copy)]
+use arrayvec::ArrayVec;
+use std::marker::Model;
+
+#[derive(Clone, Drop)]
 pub struct Buffer {
-    bytes: [u8; 112],
-    count: usize,
-    ghost room: { count ≤ 112 },
-    ghost whole: { length bytes ≡ 112 },
+    bytes: ArrayVec<u8, 112>,
+}
+
+// Contracts see a buffer as the bytes that it holds.
+impl Model for Buffer {
+    ghost use Rattle.std.specs.Prelude.{ℕ, List};
+
+    ghost Value = { List ℕ };
+
+    ghost view = { λ b. b.bytes.items };
 }

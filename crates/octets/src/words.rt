@@ -6,9 +6,6 @@ ghost use Rattle.octets.specs.Words.{word_in};
 pub fn word_at(bytes: &[u8], at: usize) -> Option<u32>
     ensures { result ≡ word_in bytes.now at }
 {
-    if bytes.len() < 4 || bytes.len() - 4 < at {
-        return None;
-    }
-    let word = [bytes[at], bytes[at + 1], bytes[at + 2], bytes[at + 3]];
-    Some(u32::from_le_bytes(word))
+    let word = bytes.get(at..)?.first_chunk()?;
+    Some(u32::from_le_bytes(*word))
 }

@@ -19,19 +19,14 @@ fn print_part(rt: &HostRuntime, part: Part) -> anyhow::Result<()> {
 }
 
 fn print_parts(rt: &HostRuntime, bytes: &[u8]) -> anyhow::Result<()> {
-    let book = match Book::open(bytes) {
-        Ok(book) => book,
-        Err(why) => {
-            let number = why.number();
-            println!(rt; "book refused {number}")?;
-            return Ok(());
+    match Book::open(bytes) {
+        Ok(book) => {
+            // the head, and for each record its offset and itself; a book has at most eight
+            for part in (0..17).map_while(|k| book.part(k)) {
+                print_part(rt, part)?;
+            }
         }
-    };
-    // the head, and for each record its offset and itself; a book has at most eight
-    for k in 0..17 {
-        if let Some(part) = book.part(k) {
-            print_part(rt, part)?;
-        }
+        Err(why) => println!(rt; "book refused {}", why.number())?,
     }
     Ok(())
 }

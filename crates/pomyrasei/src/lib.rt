@@ -2,10 +2,21 @@
 #![tactic(auto)]
 
 ghost use Rattle.std.specs.Prelude.{◌≡◌, length};
-ghost use Rattle.books.specs.Output.{left_by};
+ghost use Rattle.books.specs.Output.{Written, left_by, length_by};
 ghost use Rattle.lists.specs.Calls.{code_by, head_called, mark_called};
 
 use lists::{head_line, mark_line};
+use refusals::Refusal;
+
+// 0 for a line, or the number of the refusal: in C an answer is a number.
+fn code(answer: Result<usize, Refusal>) -> u32
+    ensures { (outcome : Written) → answer ≡ length_by outcome → result ≡ code_by outcome }
+{
+    match answer {
+        Ok(_) => 0,
+        Err(why) => u32::from(why.number()),
+    }
+}
 
 // Writes the head line; answers 0, or the number of the refusal.
 #[unsafe(no_mangle)]
@@ -13,10 +24,7 @@ pub extern "C" fn pomyrasei_head_line(book: &[u8], track: &[u8], line: &mut [u8]
     ensures value { result ≡ code_by (head_called book.now track.now (length line.old)) }
     ensures after { line.new ≡ left_by (head_called book.now track.now (length line.old)) line.old }
 {
-    match head_line(book, track, line) {
-        Ok(_) => 0,
-        Err(why) => u32::from(why.number()),
-    }
+    code(head_line(book, track, line))
 }
 
 // Writes the line of the mark with the given number, from 0; answers 0, or the number of the refusal.
@@ -30,8 +38,5 @@ pub extern "C" fn pomyrasei_mark_line(
     ensures value { result ≡ code_by (mark_called book.now track.now number (length line.old)) }
     ensures after { line.new ≡ left_by (mark_called book.now track.now number (length line.old)) line.old }
 {
-    match mark_line(book, track, number, line) {
-        Ok(_) => 0,
-        Err(why) => u32::from(why.number()),
-    }
+    code(mark_line(book, track, number, line))
 }

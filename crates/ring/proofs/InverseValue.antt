@@ -1,5 +1,5 @@
 -- What a field's inverse answers is determined: it is the inverse of the meaning, where there is one.
-use Rattle.std.proofs.Common.{◌≡◌, ℕ, Some, None, Ok, Err, Option, Result, sym, ap, ◌∙◌}
+use Rattle.std.proofs.Common.{◌≡◌, ℕ, Some, None, Ok, Err, Result}
 use Rattle.theory.specs.Meaning.{Meaning, Laws, inverse}
 use Rattle.theory.proofs.Inverses.{inverse_is, inverse_none}
 use Rattle.ring.specs.declared.RingFault.{RingFault}
@@ -16,8 +16,5 @@ module _ (m : Meaning) (laws : Laws m) (a : ℕ) where
 
   -- Both in one: the answer is read off the meaning's inverse.
   pub inverted_value : (r : Result ℕ RingFault) → Inverted m a r → r ≡ elim (inverse m a) [ Some b ↦ Ok b | None ↦ Err (NoInverse a) ]
-  inverted_value (Ok b) answer =
-      sym (ap (λ (o : Option ℕ). elim o [ Some b ↦ Ok b | None ↦ Err (NoInverse a) ]) (inverted_ok b answer))
-  inverted_value (Err fault) answer =
-      ap Err answer.0
-      ∙ sym (ap (λ (o : Option ℕ). elim o [ Some b ↦ Ok b | None ↦ Err (NoInverse a) ]) (inverted_err fault answer))
+  inverted_value (Ok b) answer = rw (inverted_ok b answer)
+  inverted_value (Err fault) answer = rw (answer.0, inverted_err fault answer)

@@ -1,7 +1,7 @@
 // Rings and fields as anybody may bring them: what their calls answer, and the laws that each shows of its meaning.
 #![tactic(auto)]
 
-ghost use Rattle.std.specs.Prelude.{◌≡◌, ℕ, ◌<◌};
+ghost use Rattle.std.specs.Prelude.{◌≡◌, ℕ, ◌%◌, ◌<◌};
 ghost use Rattle.ring.specs.Inverse.{Inverted};
 ghost use Rattle.theory.specs.Meaning.{Meaning, Laws};
 
@@ -28,6 +28,15 @@ pub trait Ring {
 
     fn product(&self, a: u64, b: u64) -> u64
         ensures { result ≡ (meaning self.now).product a b };
+
+    // The remainder of a code by the size. A code that is below the size costs no division.
+    // Not `final`, so that the operations of a ring may call it themselves.
+    fn remainder(&self, code: u64) -> u64
+        ensures { result ≡ code % (meaning self.now).size }
+    {
+        let size = self.size();
+        if code < size { code } else { code % size }
+    }
 }
 
 // A ring that can also invert: the b whose product with a is 1, and a fault exactly where there is none.

@@ -1,7 +1,6 @@
 -- The rule of the house table, computed once over the whole table, and what it says of a row that is looked up.
-use Rattle.std.proofs.Common.{◌≡◌, ℕ, ◌+◌, ◌<◌, ◌≤◌, true, false, cond, eqb, List, [], ◌∷◌, length, get_or, drop, Some, None, sym, refl, ap, ◌∙◌, ⊎_elim}
-use Rattle.std.proofs.lemmas.List.{at_drop_more, at_drop_all}
-use Rattle.std.proofs.lemmas.Bool.{cases_Bool, and_parts, eq-eqb, ne_eqb, cond-true, cond-false}
+use Rattle.std.proofs.Common.{◌≡◌, ℕ, true, false, eqb, List, [], ◌∷◌, Some, None, Option, IfSome, sym, refl, ap, ◌∙◌, ⊎_elim}
+use Rattle.std.proofs.lemmas.Bool.{cases_Bool, and_parts, cond-true, cond-false}
 use Rattle.theory.specs.First.{first, first_some}
 use Rattle.theory.specs.Numbers.{bits_in, ones_in, bits, ones, joinings}
 use Rattle.theory.specs.Operation.{pow, rung}
@@ -31,24 +30,6 @@ rule_of modulus (x ∷ rows) h t e =
     (λ (no : eqb x.modulus modulus ≡ false). rule_of modulus rows h both.1 (sym (cond-false (eqb x.modulus modulus) (Some x) (row_of modulus rows) no) ∙ e))
     (cases_Bool (eqb x.modulus modulus))
 
-pub house_row_rule : (modulus : ℕ) (h : Row) → Some h ≡ row_of modulus house → housed h ≡ true
-house_row_rule modulus h e = rule_of modulus house h house_rule (sym e)
-
-module _ (modulus : ℕ) (rows : List Row) where
-  -- no row so far has the modulus, and the others decide
-  abbrev pub LooksOn : ℕ → Type 0
-  LooksOn i = row_of modulus rows ≡ row_of modulus (drop i rows)
-
-  here : (i : ℕ) (d : Row) → i < length rows → row_of modulus (drop i rows) ≡ cond (eqb (get_or rows i d).modulus modulus) (Some (get_or rows i d)) (row_of modulus (drop (i + 1) rows))
-  here i d h = at_drop_more (row_of modulus) rows i d h
-
-  pub looks_here : (i : ℕ) (d : Row) → i < length rows → (get_or rows i d).modulus ≡ modulus → LooksOn i → Some (get_or rows i d) ≡ row_of modulus rows
-  looks_here i d h e on =
-      sym (on ∙ here i d h ∙ cond-true (eqb (get_or rows i d).modulus modulus) (Some (get_or rows i d)) (row_of modulus (drop (i + 1) rows)) (eq-eqb _ _ e))
-
-  pub looks_later : (i : ℕ) (d : Row) → i < length rows → ((get_or rows i d).modulus ≡ modulus → ⊥) → LooksOn i → LooksOn (i + 1)
-  looks_later i d h e on =
-      on ∙ here i d h ∙ cond-false (eqb (get_or rows i d).modulus modulus) (Some (get_or rows i d)) (row_of modulus (drop (i + 1) rows)) (ne_eqb _ _ e)
-
-  pub looks_end : (i : ℕ) → length rows ≤ i → LooksOn i → None ≡ row_of modulus rows
-  looks_end i h on = sym (on ∙ at_drop_all (row_of modulus) rows i h)
+pub house_row_rule : (modulus : ℕ) (r : Option Row) → r ≡ row_of modulus house → IfSome r (λ h. housed h ≡ true)
+house_row_rule modulus None e = tt
+house_row_rule modulus (Some h) e = rule_of modulus house h house_rule (sym e)

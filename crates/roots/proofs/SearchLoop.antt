@@ -31,12 +31,11 @@ passed_err (Ok b) why e = let z : ◌≡◌ {A = ℕ} 0 1 = cc in absurd (omega 
 -- ---- the powers of one ζ
 
 module _ (m : Meaning) (mark : ℕ) (e : Ratio) (zeta last : ℕ) where
-  -- Before turn j: the power in hand, the tests made, and that none matched yet.
+  -- After j tries: the power in hand, the tests made, and that none matched yet.
   pub record TriesOn (j z tests : ℕ) (before : ℕ) : Type 0 where
-    pub some : 0 < j
-    pub value : z ≡ power m zeta (j - 1)
-    pub count : tests ≡ before + (j - 1)
-    pub later : first (matches m mark e zeta) 1 last ≡ first (matches m mark e zeta) j (last + 1 - j)
+    pub value : z ≡ power m zeta j
+    pub count : tests ≡ before + j
+    pub later : first (matches m mark e zeta) 1 last ≡ first (matches m mark e zeta) (j + 1) (last + 1 - (j + 1))
 
   pub record Matched (ratio : Ratio) (tests before : ℕ) : Type 0 where
     pub j : ℕ
@@ -44,41 +43,39 @@ module _ (m : Meaning) (mark : ℕ) (e : Ratio) (zeta last : ℕ) where
     pub ratio_is : ratio ≡ turned m e (power m zeta j)
     pub tests_are : tests ≡ before + j
 
-  pub tries_start : (tests : ℕ) → TriesOn 1 1 tests tests
+  pub tries_start : (tests : ℕ) → TriesOn 0 1 tests tests
   tries_start tests = record {
-    some = omega arith;
     value = sym (pow_0 (multiplication m) zeta);
     count = omega arith;
     later = ap (first (matches m mark e zeta) 1) (let s : last ≡ last + 1 - 1 = omega arith in s);
   }
 
-  module _ (j z tests before next : ℕ) (ratio : Ratio) (h : j < last + 1) (on : TriesOn j z tests before) (n : next ≡ m.product z zeta) (t : ratio ≡ turned m e next) where
-    here : next ≡ power m zeta j
-    here = n ∙ next_power m zeta j z on.some on.value
+  module _ (j z tests before next : ℕ) (ratio : Ratio) (h : j < last) (on : TriesOn j z tests before) (n : next ≡ m.product z zeta) (t : ratio ≡ turned m e next) where
+    here : next ≡ power m zeta (j + 1)
+    here = n ∙ next_power m zeta j z on.value
 
-    there : (b : Bool) → b ≡ squares_to m mark ratio → matches m mark e zeta j ≡ b
+    there : (b : Bool) → b ≡ squares_to m mark ratio → matches m mark e zeta (j + 1) ≡ b
     there b s = sym (s ∙ ap (squares_to m mark) (t ∙ ap (turned m e) here))
 
     pub tries_turn : false ≡ squares_to m mark ratio → TriesOn (j + 1) next (tests + 1) before
     tries_turn miss = record {
-      some = omega arith;
-      value = here ∙ ap (power m zeta) (let s : j ≡ j + 1 - 1 = omega arith in s);
-      count = omega (arith, on.count, on.some);
-      later = on.later ∙ turn_later (matches m mark e zeta) j (last + 1) h (there false miss);
+      value = here;
+      count = omega (arith, on.count);
+      later = on.later ∙ turn_later (matches m mark e zeta) (j + 1) (last + 1) (omega arith) (there false miss);
     }
 
     pub tries_match : true ≡ squares_to m mark ratio → Matched ratio (tests + 1) before
     tries_match hit = record {
-      j = j;
-      found = on.later ∙ turn_here (matches m mark e zeta) j (last + 1) h (there true hit);
+      j = j + 1;
+      found = on.later ∙ turn_here (matches m mark e zeta) (j + 1) (last + 1) (omega arith) (there true hit);
       ratio_is = t ∙ ap (turned m e) here;
-      tests_are = omega (arith, on.count, on.some);
+      tests_are = omega (arith, on.count);
     }
 
-  pub tries_end : (j z tests before : ℕ) → last + 1 ≤ j → j ≤ last + 1 → TriesOn j z tests before → (first (matches m mark e zeta) 1 last ≡ None) × (tests ≡ before + last)
+  pub tries_end : (j z tests before : ℕ) → last ≤ j → j ≤ last → TriesOn j z tests before → (first (matches m mark e zeta) 1 last ≡ None) × (tests ≡ before + last)
   tries_end j z tests before h k on = (
-    on.later ∙ turn_none (matches m mark e zeta) j (last + 1) h,
-    omega (arith, on.count, on.some),
+    on.later ∙ turn_none (matches m mark e zeta) (j + 1) (last + 1) (omega arith),
+    omega (arith, on.count),
   )
 
 -- ---- the factors
@@ -89,9 +86,6 @@ module _ (m : Meaning) (mark g n : ℕ) (xs : List Factor) where
     pub later : searched m mark g xs false n 0 ≡ searched m mark g (drop i xs) serves made tests
     pub few_made : made ≤ 2 ^ 32 + i * 2 ^ 23
     pub few_tests : tests ≤ i * 2047
-
-  pub searches_start : n ≤ 2 ^ 32 → SearchesOn 0 false n 0
-  searches_start h = record { later = refl; few_made = omega arith; few_tests = omega arith }
 
   pub searches_end : (i : ℕ) (serves : Bool) (made tests : ℕ) → length xs ≤ i → SearchesOn i serves made tests → searched m mark g xs false n 0 ≡ ended (Err (Unlawful Search (cond serves 5 4) g)) made
   searches_end i serves made tests h on =
@@ -140,14 +134,17 @@ module _ (m : Meaning) (mark g n : ℕ) (xs : List Factor) where
         ∙ searched_matched m mark g (get_or xs i d) (drop (i + 1) xs) serves made tests e k hit.j (passed_ok (factor_climb m mark g (get_or xs i d)) (Some e, k) c) hit.found
         ∙ ap₂ (λ (x : Ratio) (t : ℕ). ended (Ok (x, t)) (made + k)) (sym hit.ratio_is) (sym hit.tests_are)
 
-  -- what the function answers
-  pub answers_match : (found : Option Ratio) (ratio same : Ratio) (tests made t k : ℕ) → found ≡ Some ratio → found ≡ Some same → tests ≡ t → made ≡ k
-      → searched m mark g xs false n 0 ≡ ended (Ok (ratio, t)) k → Ok ((same, tests), made) ≡ counted (searched m mark g xs false n 0)
-  answers_match found ratio same tests made t k e f a b w =
-      let one : same ≡ ratio = cc in
-      let all : Ok ((same, tests), made) ≡ Ok ((ratio, t), k) = cc in all ∙ sym (ap counted w)
+  -- what the function answers, where the factors are those that are held
+  module _ (held : List Factor) (same : xs ≡ held) where
+    pub over : counted (searched m mark g xs false n 0) ≡ counted (searched m mark g held false n 0)
+    over = ap (λ l. counted (searched m mark g l false n 0)) same
 
-  pub answers_none : (serves now : Bool) (step k : ℕ) → now ≡ serves → cond now 5 4 ≡ step
-      → searched m mark g xs false n 0 ≡ ended (Err (Unlawful Search (cond serves 5 4) g)) k → Err (Unlawful Search step g) ≡ counted (searched m mark g xs false n 0)
-  answers_none serves now step k e f w =
-      ap (λ s. Err (Unlawful Search s g)) (sym f ∙ ap (λ b. cond b 5 4) e) ∙ sym (ap counted w)
+    pub answers_match : (found : Option Ratio) (ratio hit : Ratio) (tests made t k : ℕ) → found ≡ Some ratio → found ≡ Some hit → tests ≡ t → made ≡ k
+        → searched m mark g xs false n 0 ≡ ended (Ok (hit, t)) k → Ok ((ratio, tests), made) ≡ counted (searched m mark g held false n 0)
+    answers_match found ratio hit tests made t k e f a b w =
+        let all : Ok ((ratio, tests), made) ≡ Ok ((hit, t), k) = cc in all ∙ sym (ap counted w) ∙ over
+
+    pub answers_none : (serves now : Bool) (step k : ℕ) (why : Refusal) → now ≡ serves → step ≡ cond now 5 4 → why ≡ Unlawful Search step g
+        → searched m mark g xs false n 0 ≡ ended (Err (Unlawful Search (cond serves 5 4) g)) k → Err why ≡ counted (searched m mark g held false n 0)
+    answers_none serves now step k why e f u w =
+        ap Err u ∙ ap (λ s. Err (Unlawful Search s g)) (f ∙ ap (λ b. cond b 5 4) e) ∙ sym (ap counted w) ∙ over

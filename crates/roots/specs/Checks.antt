@@ -1,5 +1,5 @@
 -- The tests by which a draft's calls decide.
-use Rattle.std.specs.Prelude.{ℕ, zero, suc, ◌/◌, ◌%◌, Bool, true, false, ◌&&◌, List, [], ◌∷◌, Some, None, Option, ◌==◌, nat_eq, nat_le}
+use Rattle.std.specs.Prelude.{◌≡◌, ℕ, zero, suc, ◌/◌, ◌%◌, Bool, true, false, ◌&&◌, List, [], ◌∷◌, Some, None, Option, ◌==◌, nat_eq, nat_le}
 use Rattle.theory.specs.First.{first}
 use Rattle.theory.specs.Meaning.{Meaning}
 use Rattle.theory.specs.Power.{power}
@@ -44,3 +44,7 @@ order_is m z r = order_at r (first (λ k. nat_eq (power m z k) 1) 1 r)
 -- the square of i is the negative of 1
 abbrev pub fourth_is : Meaning → ℕ → Bool
 fourth_is m i = m.product i i == m.negative 1
+
+-- what a closure answers is what the test is
+abbrev pub Tells : (ℕ → Bool → Type 0) → (ℕ → Bool) → Type 0
+Tells answers test = (z : ℕ) (b : Bool) → answers z b → b ≡ test z

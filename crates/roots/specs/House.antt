@@ -1,5 +1,6 @@
 -- The house table, and what its rows do.
 use Rattle.std.specs.Prelude.{ℕ, Bool, true, false, cond, ◌&&◌, List, [], ◌∷◌, Some, None, Ok, Err, Option, ◌==◌}
+use Rattle.std.specs.List.{find}
 use Rattle.theory.specs.Meaning.{Meaning}
 use Rattle.theory.specs.Residues.{residues}
 use Rattle.roots.specs.declared.call.Call.{Call}
@@ -17,8 +18,7 @@ house = row 17 4 0 0 0 ∷ row 41 9 5 1 16 ∷ row 73 27 3 2 8 ∷ row 89 34 11 
 
 -- the first row of a modulus
 abbrev pub row_of : ℕ → List Row → Option Row
-row_of modulus [] = None
-row_of modulus (h ∷ rows) = cond (h.modulus == modulus) (Some h) (row_of modulus rows)
+row_of modulus rows = find (λ h. h.modulus == modulus) rows
 
 -- A row's calls: its factor, unless there is none, and then its fourth root.
 abbrev pub row_calls : Row → List Call

@@ -1,7 +1,6 @@
 pub mod Checks
 pub mod Clauses
 pub mod Drafts
-pub mod Held
 pub mod House
 pub mod Laws
 pub mod Rooting

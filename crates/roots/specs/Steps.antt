@@ -2,6 +2,10 @@
 use Rattle.std.specs.Prelude.{ℕ, ◌-◌, ◌*◌, cond, Some, None, Ok, Err, Option, Result}
 use Rattle.theory.specs.Meaning.{Meaning}
 use Rattle.theory.specs.Numbers.{joinings}
+use Rattle.theory.specs.Operation.{ratios}
+use Rattle.theory.specs.declared.Ratio.{Ratio}
+use Rattle.joining.specs.Ladder.{climbed}
+use Rattle.joining.specs.declared.Back.{Back}
 use Rattle.joining.specs.declared.JoiningFault.{JoiningFault}
 use Rattle.refusals.specs.declared.Layer.TheVariants.{Search}
 use Rattle.refusals.specs.declared.Refusal.{Refusal}
@@ -23,3 +27,7 @@ counted steps = elim steps.outcome [ Err why ↦ Err why | Ok found ↦ Ok (foun
 abbrev pub begins : Meaning → ℕ → ℕ → Option ℕ → Result (Begun × ℕ) Refusal
 begins m t mark None = Err (Unlawful Search 2 0)
 begins m t mark (Some g) = cond (squares m mark g) (Ok (Root g, (g - 1) * joinings (2 * t))) (Ok (Kept g, g * joinings (2 * t)))
+
+-- The rung to which the ladder from the power `exponent` of [g] leads, with the joinings made; a ladder without rank is a refusal.
+abbrev pub rung_at : Meaning → ℕ → ℕ → ℕ → ℕ → ℕ → Back → Result (Option Ratio × ℕ) Refusal
+rung_at m mark g exponent by length back = passed_on (climbed (ratios m mark) g exponent by length back)

@@ -2,7 +2,6 @@
 ghost use Rattle.std.specs.Prelude.{◌≡◌, ◌<◌, ◌≤◌, true, length, OnOk};
 ghost use Rattle.roots.specs.Checks.{base, apart, order_is, fourth_is};
 ghost use Rattle.roots.specs.Drafts.{checked};
-ghost use Rattle.roots.specs.Held.{held_state};
 ghost use Rattle.roots.specs.State.{served};
 
 use crate::divide::{divided_out, gcd};
@@ -22,22 +21,17 @@ pub fn is_served(size: u64) -> bool
 pub(crate) fn is_base(r: u64) -> bool
     ensures { result ≡ base r }
 {
-    r % 2 == 1 && 3 <= r && r <= 4095
+    r % 2 == 1 && (3..=4095).contains(&r)
 }
 
 // r shares no divisor above 1 with the r of any factor.
 pub(crate) fn is_apart(r: u64, factors: &[Factor]) -> bool
     ensures { result ≡ apart r factors.now }
 {
-    for factor in factors {
-        if gcd(r, factor.r) != 1 {
-            return false;
-        }
-    }
-    true
+    factors.iter().all(|factor| gcd(r, factor.r) == 1)
 }
 
-// z has order exactly r: after at most r products the power 1 comes, and it comes no earlier.
+// z has order exactly r: after at most r products the power 1 comes, and it comes no earlier. A loop, since each power is made of the one before.
 pub(crate) fn has_order<R: Ring>(ring: &R, z: u64, r: u64) -> bool
     ensures { result ≡ order_is (R.Ring.meaning ring.now) z r }
 {
@@ -60,8 +54,8 @@ pub(crate) fn is_fourth<R: Ring>(ring: &R, i: u64) -> bool
 
 // The checks on r and f that adopting and seeking share, in their order; what passes them is the rest that r^f would leave.
 pub(crate) fn check<R: Ring>(ring: &R, held: &Held, r: u64, f: u16) -> Result<u64, Refusal>
-    ensures value { result ≡ checked (R.Ring.meaning ring.now) (held_state held.now) r f }
-    ensures room { OnOk result (length (held_state held.now).factors < 8) }
+    ensures value { result ≡ checked (R.Ring.meaning ring.now) held.now r f }
+    ensures room { OnOk result (length held.now.factors < 8) }
     ensures odd { OnOk result (base r ≡ true) }
 {
     if !is_served(ring.size()) {
@@ -73,13 +67,9 @@ pub(crate) fn check<R: Ring>(ring: &R, held: &Held, r: u64, f: u16) -> Result<u6
     if !is_base(r) {
         return Err(Refusal::Base);
     }
-    match divided_out(r, f, held.rest()) {
-        None => Err(Refusal::Power),
-        Some(left) => {
-            if !is_apart(r, held.factors()) {
-                return Err(Refusal::Shared);
-            }
-            Ok(left)
-        }
+    let left = divided_out(r, f, held.rest()).ok_or(Refusal::Power)?;
+    if !is_apart(r, held.factors()) {
+        return Err(Refusal::Shared);
     }
+    Ok(left)
 }

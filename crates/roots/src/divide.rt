@@ -1,4 +1,5 @@
 // Dividing one number out of another, and common divisors.
+// That r is above 0 is asked as it stands and not by a NonZero: each caller would make one, of 2 or of an r that it has checked.
 ghost use Rattle.std.specs.Prelude.{◌≡◌, ◌/◌, ◌^◌, ◌<◌, ◌≤◌};
 ghost use Rattle.roots.specs.Checks.{parted_out as taken_out, gcd as common};
 ghost use Rattle.roots.specs.State.{multiplicity, cofactor};
@@ -11,17 +12,11 @@ pub(crate) fn divided_out(r: u64, f: u16, n: u64) -> Option<u64>
     if f == 0 {
         return None;
     }
-    let mut left = n;
-    for _i in 0..f {
-        if left % r != 0 {
-            return None;
-        }
-        left /= r;
-    }
-    Some(left)
+    (0..f).try_fold(n, |left, _| (left % r == 0).then(|| left / r))
 }
 
 // What is left of n once r is divided out as often as it goes in, and how often that is. For n above 0 and r above 1 it is below 64.
+// A pair, and no struct: each caller takes it apart at once.
 pub(crate) fn parted(r: u64, n: u64) -> (u64, u16)
     requires { 0 < r }
     ensures left { result.0 ≡ cofactor r n }
@@ -39,17 +34,13 @@ pub(crate) fn parted(r: u64, n: u64) -> (u64, u16)
 }
 
 // The greatest common divisor, by Euclid.
-pub(crate) fn gcd(a: u64, b: u64) -> u64
+pub(crate) fn gcd(mut a: u64, mut b: u64) -> u64
     ensures { result ≡ common a b }
 {
-    let mut big = a;
-    let mut small = b;
-    while small != 0 {
-        let left = big % small;
-        big = small;
-        small = left;
+    while b != 0 {
+        (a, b) = (b, a % b);
     }
-    big
+    a
 }
 
 // n / r^f, by f divisions in a row.
@@ -57,9 +48,5 @@ pub(crate) fn by_power(n: u64, r: u64, f: u16) -> u64
     requires { 0 < r }
     ensures { result ≡ n / r ^ f }
 {
-    let mut left = n;
-    for _i in 0..f {
-        left /= r;
-    }
-    left
+    (0..f).fold(n, |left, _| left / r)
 }

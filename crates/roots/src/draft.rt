@@ -1,7 +1,6 @@
 // Drafts: factors and a fourth root are gathered over a field, until the draft is closed.
 ghost use Rattle.std.specs.Prelude.{◌≡◌, if◌then◌else◌, nat_lt};
 ghost use Rattle.roots.specs.Drafts.{answer, next, adopted, given};
-ghost use Rattle.roots.specs.Held.{held_state};
 ghost use Rattle.roots.specs.State.{multiplicity, start as started};
 
 mod calls;
@@ -10,57 +9,33 @@ mod seeking;
 use crate::checks::{check, has_order, is_fourth, is_served};
 use crate::divide::parted;
 use crate::factor::Factor;
+use crate::gathered::{Gathered, Open};
 use crate::holdings::Held;
 use crate::plan::Plan;
 use refusals::Refusal;
 use ring::Field;
+use std::marker::PhantomData;
 
-#[derive(Drop)]
-pub struct Draft<F> {
-    field: F,
-    held: Held,
-}
+// A draft gathers, until it is closed.
+pub type Draft<F> = Gathered<F, Open>;
 
 impl<F: Field> Draft<F> {
     // A new draft holds no factor and no fourth root, and its rest is the odd part of the size less one.
     pub fn start(field: F) -> Draft<F>
-        ensures value { held_state result.held ≡ started (F.Ring.meaning field).size }
+        ensures value { result.held ≡ started (F.Ring.meaning field).size }
         ensures field { result.field ≡ field }
     {
         let (rest, _) = parted(2, field.size() - 1);
-        Draft {
+        Gathered {
             field,
             held: Held::new(rest),
+            stage: PhantomData,
         }
-    }
-
-    pub fn field(&self) -> &F
-        ensures { result.now ≡ self.now.field }
-    {
-        &self.field
-    }
-
-    pub fn factors(&self) -> &[Factor]
-        ensures { result.now ≡ (held_state self.now.held).factors }
-    {
-        self.held.factors()
-    }
-
-    pub fn rest(&self) -> u64
-        ensures { result ≡ (held_state self.now.held).rest }
-    {
-        self.held.rest()
-    }
-
-    pub fn fourth(&self) -> Option<u64>
-        ensures { result ≡ (held_state self.now.held).fourth }
-    {
-        self.held.fourth()
     }
 
     // How often r goes into the rest: the greatest power of it that can be taken. Of 0 and 1 none is.
     pub fn full_power(&self, r: u64) -> u16
-        ensures { result ≡ (if nat_lt r 2 then 0 else multiplicity r (held_state self.now.held).rest) }
+        ensures { result ≡ (if nat_lt r 2 then 0 else multiplicity r self.now.held.rest) }
     {
         if r < 2 {
             return 0;
@@ -70,9 +45,10 @@ impl<F: Field> Draft<F> {
     }
 
     // Takes the factor r with the power f and a ζ of order exactly r, and divides the rest by r^f. A refused call changes nothing.
+    // r and f stay two numbers, here and in seeking: whoever calls names both, and a struct of the two would be written out at each call.
     pub fn adopt(&mut self, r: u64, f: u16, zeta: u64) -> Result<u64, Refusal>
-        ensures value { result ≡ answer (adopted (F.Ring.meaning self.old.field) (held_state self.old.held) r f zeta) }
-        ensures after { held_state self.new.held ≡ next (held_state self.old.held) (adopted (F.Ring.meaning self.old.field) (held_state self.old.held) r f zeta) }
+        ensures value { result ≡ answer (adopted (F.Ring.meaning self.old.field) self.old.held r f zeta) }
+        ensures after { self.new.held ≡ next self.old.held (adopted (F.Ring.meaning self.old.field) self.old.held r f zeta) }
         ensures field { self.new.field ≡ self.old.field }
     {
         let left = check(&self.field, &self.held, r, f)?;
@@ -84,9 +60,10 @@ impl<F: Field> Draft<F> {
     }
 
     // Sets the fourth root, a number whose square is the negative of 1. A later one replaces it.
+    // This and seeking one share too little for one function: it would take what finds the root, and promise by way of that.
     pub fn give(&mut self, root: u64) -> Result<u64, Refusal>
-        ensures value { result ≡ answer (given (F.Ring.meaning self.old.field) (held_state self.old.held) root) }
-        ensures after { held_state self.new.held ≡ next (held_state self.old.held) (given (F.Ring.meaning self.old.field) (held_state self.old.held) root) }
+        ensures value { result ≡ answer (given (F.Ring.meaning self.old.field) self.old.held root) }
+        ensures after { self.new.held ≡ next self.old.held (given (F.Ring.meaning self.old.field) self.old.held root) }
         ensures field { self.new.field ≡ self.old.field }
     {
         if !is_served(self.field.size()) {
@@ -101,9 +78,13 @@ impl<F: Field> Draft<F> {
 
     // A closed plan roots marks, and takes nothing more.
     pub fn close(self) -> Plan<F>
-        ensures value { held_state result.held ≡ held_state self.held }
+        ensures value { result.held ≡ self.held }
         ensures field { result.field ≡ self.field }
     {
-        Plan::new(self.field, self.held)
+        Gathered {
+            field: self.field,
+            held: self.held,
+            stage: PhantomData,
+        }
     }
 }

@@ -3,8 +3,9 @@ ghost use Rattle.std.specs.Prelude.{◌≡◌};
 ghost use Rattle.roots.specs.Rooting.{ordered, finished, ended, answered};
 
 use crate::plan::Answer;
+use crate::search::Search;
 use joining::quotient;
-use refusals::{Layer, Refusal};
+use refusals::Refusal;
 use ring::Field;
 use theory::Ratio;
 
@@ -12,26 +13,19 @@ use theory::Ratio;
 pub(crate) fn in_order(a: u64, b: u64) -> (u64, u64)
     ensures { result ≡ ordered a b }
 {
-    if b < a { (b, a) } else { (a, b) }
+    (a.min(b), a.max(b))
 }
 
-// Step 6: one inverse is taken, and the root is squared. The counts, joinings and tests, are passed along.
-pub(crate) fn finish<F: Field>(
-    field: &F,
-    mark: u64,
-    g: u64,
-    ratio: Ratio,
-    counts: (u64, u64),
-) -> Result<Answer, Refusal>
-    ensures { result ≡ answered (ended (finished (F.Ring.meaning field.now) mark g counts.1 ratio) counts.0) }
-{
-    let root = quotient(field, ratio)?;
-    if field.product(root, root) != mark {
-        return Err(Refusal::Unlawful {
-            layer: Layer::Search,
-            step: 6,
-            code: g,
-        });
+impl<'a, F: Field> Search<'a, F> {
+    // Step 6: one inverse is taken, and the root is squared. The counts, joinings and tests, are passed along.
+    pub(crate) fn finish(&self, ratio: Ratio, counts: (u64, u64)) -> Result<Answer, Refusal>
+        ensures { result ≡ answered (ended (finished (F.Ring.meaning self.now.ratios.ring.now) self.now.ratios.mark self.now.g counts.1 ratio) counts.0) }
+    {
+        let field = self.ratios.ring;
+        let root = quotient(field, ratio)?;
+        if field.product(root, root) != self.ratios.mark {
+            return Err(self.unlawful(6));
+        }
+        Ok((in_order(root, field.negative(root)), counts))
     }
-    Ok((in_order(root, field.negative(root)), counts))
 }

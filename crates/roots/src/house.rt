@@ -1,6 +1,5 @@
 // The house table: for each of seven moduli a plan that leaves the rest 1.
 ghost use Rattle.std.specs.Prelude.{◌≡◌, true, IfSome};
-ghost use Rattle.roots.specs.Held.{held_state};
 ghost use Rattle.roots.specs.House.{house, row_of, row_calls, housed};
 ghost use Rattle.roots.specs.Runs.{run};
 ghost use Rattle.roots.specs.Worked.{Worked};
@@ -10,6 +9,7 @@ use crate::draft::Draft;
 use ring::Field;
 
 // A modulus, a fourth root of 1 modulo it, and a factor r^f with a ζ of order r; where there is no factor, r, f and ζ are 0.
+// The rows are plain numbers, as the designers' table has them, and so no Option.
 #[derive(Clone, Copy, PartialEq, Eq, Debug)]
 pub struct Row {
     pub modulus: u64,
@@ -78,18 +78,20 @@ pub fn house_row(modulus: u64) -> Option<Row>
     ensures rule { IfSome result (λ row. housed row ≡ true) }
     ensures worked { Worked }
 {
-    for row in HOUSE {
-        if row.modulus == modulus {
-            return Some(row);
-        }
-    }
-    None
+    row_in(&HOUSE, modulus)
+}
+
+// the first row of the modulus
+fn row_in(rows: &[Row], modulus: u64) -> Option<Row>
+    ensures { result ≡ row_of modulus rows.now }
+{
+    rows.iter().copied().find(|row| row.modulus == modulus)
 }
 
 impl Row {
     // The draft that the row's calls make over a field.
     pub fn draft<F: Field>(self, field: F) -> Draft<F>
-        ensures value { held_state result.held ≡ run (F.Ring.meaning field) (row_calls self) }
+        ensures value { result.held ≡ run (F.Ring.meaning field) (row_calls self) }
         ensures field { result.field ≡ field }
     {
         let give = Call::Give { root: self.fourth };

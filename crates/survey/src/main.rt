@@ -7,10 +7,12 @@ mod words;
 use anyhow::anyhow;
 use fields::{Residues, day_field, house_residues_lawful};
 use refusals::Refusal;
+use ring::Ring;
 use roots::{Draft, HOUSE, Plan, house_row};
-use words::{DAY, Task};
+use words::{MARKS, Task};
 
 // Seeks each prime up to 4,095 that divides the odd part, in its full power. What still divides the rest when its turn comes is prime.
+// A refusal is printed here, ends `book`, and is passed over by `compare`: a loop for all three would be no shorter.
 fn seek_factors(rt: &HostRuntime, draft: &mut Draft<Residues>) -> anyhow::Result<()> {
     for r in 3..4096u64 {
         let f = draft.full_power(r);
@@ -20,10 +22,7 @@ fn seek_factors(rt: &HostRuntime, draft: &mut Draft<Residues>) -> anyhow::Result
                     let rest = draft.rest();
                     println!(rt; "factor {r} power {f}: root of unity {zeta}, rest {rest}")?;
                 }
-                Err(why) => {
-                    let number = why.number();
-                    println!(rt; "factor {r} power {f}: refused {number}")?;
-                }
+                Err(why) => println!(rt; "factor {r} power {f}: refused {}", why.number())?,
             }
         }
     }
@@ -33,10 +32,7 @@ fn seek_factors(rt: &HostRuntime, draft: &mut Draft<Residues>) -> anyhow::Result
 fn seek_fourth(rt: &HostRuntime, draft: &mut Draft<Residues>) -> anyhow::Result<()> {
     match draft.seek_fourth() {
         Ok(root) => println!(rt; "fourth root {root}")?,
-        Err(why) => {
-            let number = why.number();
-            println!(rt; "fourth root: refused {number}")?;
-        }
+        Err(why) => println!(rt; "fourth root: refused {}", why.number())?,
     }
     Ok(())
 }
@@ -49,23 +45,16 @@ fn print_mark(rt: &HostRuntime, plan: &Plan<Residues>, mark: u64) -> anyhow::Res
             )?;
         }
         Err(Refusal::Unlawful { step, .. }) => println!(rt; "mark {mark} refused 14 step {step}")?,
-        Err(why) => {
-            let number = why.number();
-            println!(rt; "mark {mark} refused {number}")?;
-        }
+        Err(why) => println!(rt; "mark {mark} refused {}", why.number())?,
     }
     Ok(())
 }
 
-// The house table: for each modulus of a diffuser the two wells of depth 2, by the plan of its row.
+// For each modulus of a diffuser the two wells of depth 2, by the plan of its row in the house table.
 fn print_house(rt: &HostRuntime) -> anyhow::Result<()> {
     house_residues_lawful();
-    for row in HOUSE {
-        let modulus = row.modulus;
-        let Some(row) = house_row(modulus) else {
-            continue;
-        };
-        let Ok(field) = Residues::new(modulus) else {
+    for modulus in HOUSE.map(|row| row.modulus) {
+        let (Some(row), Ok(field)) = (house_row(modulus), Residues::new(modulus)) else {
             continue;
         };
         let plan = row.draft(field).close();
@@ -79,20 +68,8 @@ fn print_house(rt: &HostRuntime) -> anyhow::Result<()> {
     Ok(())
 }
 
-// The field of the day is known to be lawful; any other modulus is taken as it comes.
-fn field_of(modulus: u64) -> anyhow::Result<Residues> {
-    if modulus == DAY {
-        return Ok(day_field());
-    }
-    match Residues::new(modulus) {
-        Ok(field) => Ok(field),
-        Err(_) => Err(anyhow!("the modulus lies outside 2 to 2147483647 (refused 1)")),
-    }
-}
-
-fn survey(rt: &HostRuntime, task: &Task) -> anyhow::Result<()> {
-    let modulus = task.modulus;
-    let field = field_of(modulus)?;
+fn survey(rt: &HostRuntime, field: Residues, marks: &[u64]) -> anyhow::Result<()> {
+    let modulus = field.size();
     println!(rt; "field modulo {modulus}")?;
     let mut draft = Draft::start(field);
     let rest = draft.rest();
@@ -101,19 +78,27 @@ fn survey(rt: &HostRuntime, task: &Task) -> anyhow::Result<()> {
     seek_fourth(rt, &mut draft)?;
     let plan = draft.close();
     println!(rt; "plan closed")?;
-    for mark in task.marks.iter() {
+    for mark in marks {
         print_mark(rt, &plan, *mark)?;
     }
     Ok(())
 }
 
+fn field_of(modulus: u64) -> anyhow::Result<Residues> {
+    Residues::new(modulus).map_err(|_| anyhow!(
+        "the modulus lies outside 2 to 2147483647 (refused 1)"
+    ))
+}
+
+// The field of the day is known to be lawful; any other modulus is taken as it comes.
 fn run(rt: &HostRuntime) -> anyhow::Result<()> {
-    let task = Task::read(rt)?;
-    survey(rt, &task)?;
-    if task.of_the_day {
-        print_house(rt)?;
+    match Task::read(rt)? {
+        None => {
+            survey(rt, day_field(), &MARKS)?;
+            print_house(rt)
+        }
+        Some(task) => survey(rt, field_of(task.modulus)?, task.marks.as_slice()),
     }
-    Ok(())
 }
 
 fn main(rt: HostRuntime) -> anyhow::Result<()> {

@@ -5,8 +5,10 @@ use roots::draft::Draft;
 use roots::factor::Factor;
 use roots::plan::Answer;
 use std::process::Abort;
+use std::test::Fail;
 
 // A call on a draft, in short: adopting takes r, f and ζ, and seeking r and f.
+// No `Call`: with its named fields a row that adopts would take eight lines, and a constant can call no function that makes one.
 #[derive(Clone, Copy)]
 pub(crate) enum Ask {
     Adopt(u64, u16, u64),
@@ -36,14 +38,14 @@ fn answered<F: Field>(draft: &mut Draft<F>, ask: Ask) -> Result<u64, Refusal> {
 // The rest, the fourth root and the factors, of which there are eight at most.
 fn held<F: Field>(draft: &Draft<F>) -> (u64, Option<u64>, [Option<Factor>; 8]) {
     let mut factors = [None; 8];
-    for i in 0..8 {
-        factors[i] = draft.factors().get(i).copied();
+    for (place, factor) in factors.iter_mut().zip(draft.factors()) {
+        *place = Some(*factor);
     }
     (draft.rest(), draft.fourth(), factors)
 }
 
 // Each call answers as stated, and a refused one changes nothing; then each mark does.
-pub(crate) fn runs<F: Field + Drop>(rt: &impl Abort, field: F, case: &Case) {
+fn runs<F: Field + Drop>(rt: &impl Abort, field: F, case: &Case) {
     let modulus = case.modulus;
     let mut draft = Draft::start(field);
     for (ask, answer) in case.asks {
@@ -58,4 +60,18 @@ pub(crate) fn runs<F: Field + Drop>(rt: &impl Abort, field: F, case: &Case) {
     for (mark, answer) in case.marks {
         assert_eq!(rt; plan.root(*mark), *answer, "modulo {modulus}: {mark}");
     }
+}
+
+// Each case over the field of its modulus.
+pub(crate) fn all_run<F: Field + Drop, M: Fn(u64) -> Result<F, Refusal>>(
+    rt: &impl Abort,
+    cases: &[Case],
+    make: M,
+) -> Result<(), Fail>
+    requires { M.IsAlwaysCallable make }
+{
+    for case in cases {
+        runs(rt, make(case.modulus)?, case);
+    }
+    Ok(())
 }

@@ -1,5 +1,5 @@
 // The prime 2,013,265,921 is 15 × 2^27 + 1. For all of its squares but fourteen the ladder by 2 has rank 2 or more; those fourteen go through the factors 3 and 5.
-use crate::case::{Ask, Case, runs};
+use crate::case::{Ask, Case, all_run};
 use fields::Residues;
 use std::test::Fail;
 
@@ -31,10 +31,5 @@ const THROUGH_FACTORS: Case = Case {
 
 #[test]
 fn marks_through_the_factors(rt: HostRuntime) -> Result<(), Fail> {
-    runs(
-        &rt,
-        Residues::new(THROUGH_FACTORS.modulus)?,
-        &THROUGH_FACTORS,
-    );
-    Ok(())
+    all_run(&rt, &[THROUGH_FACTORS], Residues::new)
 }

@@ -1,8 +1,7 @@
 // Every refusal at its edges. Where two hold of a call, the one with the smaller number is answered.
-use crate::case::{Ask, Case, runs};
+use crate::case::{Ask, Case, all_run};
 use fields::{Pairs, Residues};
 use refusals::{Layer, Refusal};
-use std::process::Abort;
 use std::test::Fail;
 
 // Whatever else is wrong with a call.
@@ -242,29 +241,19 @@ const MARKS: [Case; 4] = [
     },
 ];
 
-fn all_run(rt: &impl Abort, cases: &[Case]) -> Result<(), Fail> {
-    for case in cases {
-        runs(rt, Residues::new(case.modulus)?, case);
-    }
-    Ok(())
-}
-
 #[test]
 fn edges_over_residues(rt: HostRuntime) -> Result<(), Fail> {
-    all_run(&rt, &SIZES)?;
-    all_run(&rt, &[FULL, GIVEN_ROOTS])?;
-    all_run(&rt, &BASES)?;
-    all_run(&rt, &POWERS_AND_DIVISORS)?;
-    all_run(&rt, &UNFOUND)?;
-    all_run(&rt, &MARKS)
+    all_run(&rt, &SIZES, Residues::new)?;
+    all_run(&rt, &[FULL, GIVEN_ROOTS], Residues::new)?;
+    all_run(&rt, &BASES, Residues::new)?;
+    all_run(&rt, &POWERS_AND_DIVISORS, Residues::new)?;
+    all_run(&rt, &UNFOUND, Residues::new)?;
+    all_run(&rt, &MARKS, Residues::new)
 }
 
 #[test]
 fn edges_over_pairs(rt: HostRuntime) -> Result<(), Fail> {
-    for case in &PAIRS {
-        runs(&rt, Pairs::new(case.modulus)?, case);
-    }
-    Ok(())
+    all_run(&rt, &PAIRS, Pairs::new)
 }
 
 #[test]
@@ -315,6 +304,11 @@ fn numbers(rt: HostRuntime) {
         (Refusal::Zero, 12),
         (Refusal::NoSquare, 13),
         (unlawful, 14),
+        (Refusal::Room, 15),
+        (Refusal::Format, 16),
+        (Refusal::Layout, 17),
+        (Refusal::Track, 18),
+        (Refusal::Line, 19),
     ] {
         assert_eq!(rt; why.number(), number);
     }

@@ -7,7 +7,7 @@ use roots::house::{Row, house_row};
 use roots::plan::Plan;
 use std::test::Fail;
 
-// modulus, fourth root, and a factor r with its power f and ζ; a row without a factor has 0 there
+// modulus, fourth root, and a factor r with its power f and ζ; a row without a factor has 0 there, as in the table
 const HOUSE: [(u64, u64, u64, u16, u64); 7] = [
     (17, 4, 0, 0, 0),
     (41, 9, 5, 1, 16),
@@ -18,27 +18,27 @@ const HOUSE: [(u64, u64, u64, u16, u64); 7] = [
     (257, 16, 0, 0, 0),
 ];
 
-fn planned(q: u64, fourth: u64, r: u64, f: u16, zeta: u64) -> Result<Plan<Residues>, Refusal> {
-    let mut draft = Draft::start(Residues::new(q)?);
-    if r > 0 {
-        draft.adopt(r, f, zeta)?;
+fn planned(row: Row) -> Result<Plan<Residues>, Refusal> {
+    let mut draft = Draft::start(Residues::new(row.modulus)?);
+    if row.r > 0 {
+        draft.adopt(row.r, row.f, row.zeta)?;
     }
-    draft.give(fourth)?;
+    draft.give(row.fourth)?;
     Ok(draft.close())
 }
 
 #[test]
 fn house_rows_root_every_mark(rt: HostRuntime) -> Result<(), Fail> {
-    for (q, fourth, r, f, zeta) in HOUSE {
+    for (modulus, fourth, r, f, zeta) in HOUSE {
         let row = Row {
-            modulus: q,
+            modulus,
             fourth,
             r,
             f,
             zeta,
         };
-        assert_eq!(rt; house_row(q), Some(row));
-        let plan = planned(q, fourth, r, f, zeta)?;
+        assert_eq!(rt; house_row(modulus), Some(row));
+        let plan = planned(row)?;
         assert_eq!(rt; plan.rest(), 1);
         agrees(&rt, &plan);
     }

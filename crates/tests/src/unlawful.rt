@@ -1,5 +1,5 @@
 // Rings that are no fields, and how each shows it: by the layer, the step and the code in hand.
-use crate::case::{Ask, Case, runs};
+use crate::case::{Ask, Case, all_run};
 use fields::Residues;
 use refusals::{Layer, Refusal};
 use std::test::Fail;
@@ -96,8 +96,5 @@ const RINGS: [Case; 5] = [
 
 #[test]
 fn rings_that_are_no_fields(rt: HostRuntime) -> Result<(), Fail> {
-    for case in &RINGS {
-        runs(&rt, Residues::new(case.modulus)?, case);
-    }
-    Ok(())
+    all_run(&rt, &RINGS, Residues::new)
 }

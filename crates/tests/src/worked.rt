@@ -1,5 +1,5 @@
 // Marks worked by hand.
-use crate::case::{Ask, Case, runs};
+use crate::case::{Ask, Case, all_run};
 use fields::{Pairs, Residues};
 use refusals::{Layer, Refusal};
 use std::test::Fail;
@@ -60,9 +60,6 @@ const PAIRS: Case = Case {
 
 #[test]
 fn marks_worked_by_hand(rt: HostRuntime) -> Result<(), Fail> {
-    for case in &RESIDUES {
-        runs(&rt, Residues::new(case.modulus)?, case);
-    }
-    runs(&rt, Pairs::new(PAIRS.modulus)?, &PAIRS);
-    Ok(())
+    all_run(&rt, &RESIDUES, Residues::new)?;
+    all_run(&rt, &[PAIRS], Pairs::new)
 }

@@ -1,61 +1,40 @@
 // Why no track is written.
-use std::alloc::{AllocError, AllocFailed};
-use std::{fmt, io};
+use std::alloc::AllocError;
+use std::io;
+use std::num::{IntErrorKind, ParseIntError};
+use thiserror::Error;
 
-#[derive(Clone, Copy)]
+#[derive(Clone, Copy, Debug, Error)]
 pub(crate) enum Wrong {
+    #[error("not text")]
     NoText,
+    #[error("not a whole number")]
     NoNumber,
+    #[error("the mark is above 4294967295")]
     TooLarge,
+    #[error("more than 512 marks")]
     TooMany,
 }
 
-#[derive(Clone, Copy)]
+#[derive(Clone, Copy, Debug, Error)]
 pub(crate) enum Fault {
+    #[error("takes no arguments; usage: track < MARKS > TRACK, with one decimal mark a line")]
     Arguments,
     // the number of a line of the input, from 1, and what is wrong with it
+    #[error("line {number}: {wrong}")]
     Line { number: u64, wrong: Wrong },
-    // reading, writing or memory failed
-    System(io::Error),
+    // reading or writing failed
+    #[error(transparent)]
+    System(#[from] io::Error),
+    #[error("out of memory")]
+    Memory(#[from(alloc)] AllocError),
 }
 
-impl fmt::Display for Wrong {
-    fn fmt<W: fmt::Write>(&self, f: &mut fmt::Formatter<W>) -> fmt::Result {
-        match self {
-            Wrong::NoText => f.write_str("not text"),
-            Wrong::NoNumber => f.write_str("not a whole number"),
-            Wrong::TooLarge => f.write_str("the mark is above 4294967295"),
-            Wrong::TooMany => f.write_str("more than 512 marks"),
+impl From<ParseIntError> for Wrong {
+    fn from(why: ParseIntError) -> Wrong {
+        match why.kind() {
+            IntErrorKind::PosOverflow => Wrong::TooLarge,
+            _ => Wrong::NoNumber,
         }
-    }
-}
-
-impl fmt::Display for Fault {
-    fn fmt<W: fmt::Write>(&self, f: &mut fmt::Formatter<W>) -> fmt::Result {
-        match self {
-            Fault::Arguments => f.write_str(
-                "takes no arguments; usage: track < MARKS > TRACK, with one decimal mark a line",
-            ),
-            Fault::Line { number, wrong } => write!(f, "line {number}: {wrong}"),
-            Fault::System(error) => write!(f, "{error}"),
-        }
-    }
-}
-
-impl From<io::Error> for Fault {
-    fn from(error: io::Error) -> Fault {
-        Fault::System(error)
-    }
-}
-
-impl From<AllocError> for Fault {
-    fn from(error: AllocError) -> Fault {
-        Fault::System(error.into())
-    }
-}
-
-impl<T: Drop> From<AllocFailed<T>> for Fault {
-    fn from(refused: AllocFailed<T>) -> Fault {
-        Fault::System(refused.into())
     }
 }

@@ -5,12 +5,12 @@ ghost use Rattle.track.specs.Tracks.{track_of};
 
 use std::alloc::{AllocError, Global};
 
-// The low four bytes of n.
+// The low four bytes of n, which is a count too: no type says that one fits a u32.
 fn put_word(bytes: &mut Vec<u8>, n: u64) -> Result<(), AllocError>
     ensures { OnOk result (bytes.new.items ≡ bytes.old.items ++ word n) }
 {
     let word = n.to_le_bytes();
-    bytes.extend_from_slice(&word[0..4])
+    bytes.extend_from_slice(&word[..4])
 }
 
 // How many marks, where the first begins, and the marks.

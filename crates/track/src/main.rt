@@ -30,6 +30,7 @@ fn run(rt: &HostRuntime) -> Result<(), Fault> {
     Ok(())
 }
 
+// As in `book`; the few lines would need a crate of their own, generic over the fault, to stand once.
 fn main(rt: HostRuntime) -> ExitCode {
     match run(&rt) {
         Ok(()) => ExitCode::SUCCESS,

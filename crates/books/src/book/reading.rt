@@ -1,5 +1,5 @@
 // Reading a book: its head, its offsets and its records.
-ghost use Rattle.std.specs.Prelude.{◌≡◌, ◌+◌, ◌*◌, ◌≤◌, length};
+ghost use Rattle.std.specs.Prelude.{◌≡◌, ◌↔◌, ◌+◌, ◌*◌, ◌<◌, ◌≤◌, length, IsSome};
 ghost use Rattle.books.specs.Layout.{offsets_right, offset};
 ghost use Rattle.books.specs.Parts.{Opens, Parted, record_in, record_read};
 
@@ -14,15 +14,7 @@ fn offsets_stand(bytes: &[u8], count: u32) -> bool
     requires { (count ≤ 8) × (16 + 4 * count ≤ length bytes.now) }
     ensures { result ≡ offsets_right bytes.now count 0 count }
 {
-    for k in 0..count {
-        let Some(found) = word_at(bytes, 16 + 4 * k as usize) else {
-            return false;
-        };
-        if found != 16 + 4 * count + 8 * k {
-            return false;
-        }
-    }
-    true
+    (0..count).all(|k| word_at(bytes, 16 + 4 * k as usize) == Some(16 + 4 * count + 8 * k))
 }
 
 // The factor in the first eight bytes, if there are so many.
@@ -44,6 +36,7 @@ impl<'a> Book<'a> {
     pub fn open(bytes: &'a [u8]) -> Result<Book<'a>, Refusal>
         ensures { Opens bytes.now result }
     {
+        // The pattern names the bytes of the head, and binds the rest.
         let [
             a0,
             a1,
@@ -73,10 +66,12 @@ impl<'a> Book<'a> {
         if count > 8 || rest.len() != 12 * count as usize || !offsets_stand(bytes, count) {
             return Err(Refusal::Layout);
         }
+        // in the bytes 0 stands for no fourth root
+        let fourth = u32::from_le_bytes([*i0, *i1, *i2, *i3]);
         Ok(Book {
             bytes,
             modulus: u32::from_le_bytes([*q0, *q1, *q2, *q3]),
-            fourth: u32::from_le_bytes([*i0, *i1, *i2, *i3]),
+            fourth: (fourth != 0).then_some(fourth),
             count,
         })
     }
@@ -87,8 +82,8 @@ impl<'a> Book<'a> {
         self.modulus
     }
 
-    // The fourth root, or 0 for none.
-    pub fn fourth(&self) -> u32
+    // The fourth root, if the book has one.
+    pub fn fourth(&self) -> Option<u32>
         ensures { result ≡ self.now.fourth }
     {
         self.fourth
@@ -103,12 +98,13 @@ impl<'a> Book<'a> {
 
     // The factor of record k, if the book has so many.
     pub fn factor(&self, k: u32) -> Option<Factor>
-        ensures { result ≡ record_read self.now.bytes.now (offset self.now.count k) }
+        ensures value { result ≡ record_read self.now.bytes.now (offset self.now.count k) }
+        ensures there { IsSome result ↔ (k < self.now.count) }
     {
-        let at = 16 + 4 * self.count as usize + 8 * k as usize;
-        if self.bytes.len() < at {
+        if k >= self.count {
             return None;
         }
+        let at = 16 + 4 * self.count as usize + 8 * k as usize;
         read_record(&self.bytes[at..])
     }
 
@@ -118,11 +114,11 @@ impl<'a> Book<'a> {
     {
         let count = self.count as usize;
         let bytes = self.bytes;
-        if bytes.len() < 16 + 12 * count || k >= 1 + 2 * count {
+        if k >= 1 + 2 * count {
             return None;
         }
         if k == 0 {
-            return Some(Part::Head(0, &bytes[0..16]));
+            return Some(Part::Head(0, &bytes[..16]));
         }
         if k <= count {
             let at = 16 + 4 * (k - 1);

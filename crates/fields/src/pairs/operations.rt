@@ -5,7 +5,7 @@ ghost use Rattle.theory.specs.Pairs.{real, imaginary, pair};
 ghost use Rattle.theory.proofs.PairLaws.{pairs_laws_31};
 
 use super::Pairs;
-use crate::modular;
+use crate::residues::Residues;
 use refusals::Refusal;
 use ring::{Field, Ring, RingFault};
 
@@ -14,40 +14,41 @@ impl Pairs {
     pub fn new(p: u64) -> Result<Pairs, Refusal>
         ensures { PairsMade p result }
     {
-        if 3 <= p && p <= 2_147_483_647 && p % 4 == 3 {
-            Ok(Pairs { p })
+        let base = Residues::new(p)?;
+        if p % 4 == 3 {
+            Ok(Pairs { base })
         } else {
             Err(Refusal::Modulus)
         }
     }
 
     fn real(&self, a: u64) -> u64
-        ensures { result ≡ real self.now.p a }
+        ensures { result ≡ real self.now.base.q a }
     {
-        modular::reduce(a, self.p)
+        self.base.remainder(a)
     }
 
     fn imaginary(&self, a: u64) -> u64
-        ensures { result ≡ imaginary self.now.p a }
+        ensures { result ≡ imaginary self.now.base.q a }
     {
-        modular::reduce(a / self.p, self.p)
+        self.base.remainder(a / self.base.size())
     }
 
     // The code of x + y·i.
     fn code(&self, x: u64, y: u64) -> u64
-        ensures { result ≡ pair self.now.p x y }
+        ensures { result ≡ pair self.now.base.q x y }
     {
-        modular::reduce(x, self.p) + self.p * modular::reduce(y, self.p)
+        self.base.remainder(x) + self.base.size() * self.base.remainder(y)
     }
 }
 
 impl Ring for Pairs {
     ghost meaning = { of_pairs };
 
-    ghost laws = { λ r. pairs_laws_31 r.p r.low r.high };
+    ghost laws = { λ r. pairs_laws_31 r.base.q r.low r.base.high };
 
     fn size(&self) -> u64 {
-        self.p * self.p
+        self.base.size() * self.base.size()
     }
 
     fn sum(&self, a: u64, b: u64) -> u64 {
@@ -58,23 +59,24 @@ impl Ring for Pairs {
     }
 
     fn negative(&self, a: u64) -> u64 {
-        self.code(self.p - self.real(a), self.p - self.imaginary(a))
+        let p = self.base.size();
+        self.code(p - self.real(a), p - self.imaginary(a))
     }
 
     fn product(&self, a: u64, b: u64) -> u64 {
         let (x, y) = (self.real(a), self.imaginary(a));
         let (z, w) = (self.real(b), self.imaginary(b));
-        self.code(x * z + (self.p * self.p - y * w), x * w + y * z)
+        self.code(x * z + (self.size() - y * w), x * w + y * z)
     }
 }
 
 impl Field for Pairs {
     // The conjugate x − y·i, divided by the norm x × x + y × y.
     fn inverse(&self, a: u64) -> Result<u64, RingFault> {
+        let p = self.base.size();
         let (x, y) = (self.real(a), self.imaginary(a));
-        match modular::invert(x * x + y * y, self.p) {
-            Some(v) => Ok(self.code(x * v, (self.p - y) * v)),
-            None => Err(RingFault::NoInverse(a)),
-        }
+        let norm = x * x + y * y;
+        let v = self.base.invert(norm).ok_or(RingFault::NoInverse(a))?;
+        Ok(self.code(x * v, (p - y) * v))
     }
 }

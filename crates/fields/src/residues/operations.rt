@@ -1,12 +1,12 @@
 // What residues modulo q answer as a ring and as a field.
 ghost use Rattle.std.specs.Prelude.{◌≡◌};
+ghost use Rattle.fields.specs.Inverse.{Inverse};
 ghost use Rattle.fields.specs.Residues.{ResiduesMade, of_residues};
 ghost use Rattle.theory.specs.Meaning.{Lawful};
 ghost use Rattle.theory.specs.Residues.{residues};
 ghost use Rattle.theory.proofs.ResidueLaws.{residues_laws_31};
 
 use super::Residues;
-use crate::modular;
 use refusals::Refusal;
 use ring::{Field, Ring, RingFault};
 
@@ -15,11 +15,27 @@ impl Residues {
     pub fn new(q: u64) -> Result<Residues, Refusal>
         ensures { ResiduesMade q result }
     {
-        if 2 <= q && q <= 2_147_483_647 {
+        if (2..=2_147_483_647).contains(&q) {
             Ok(Residues { q })
         } else {
             Err(Refusal::Modulus)
         }
+    }
+
+    // The b below q whose product with a is 1 modulo q, if there is one, by Euclid's steps:
+    // at each of them the remainder r is t × a, and the next one, s, is u × a, modulo q.
+    pub(crate) fn invert(&self, a: u64) -> Option<u64>
+        ensures { Inverse self.now.q a result }
+    {
+        let q = self.q;
+        let (mut r, mut s) = (q, self.remainder(a));
+        let (mut t, mut u) = (0, 1);
+        while s != 0 {
+            let quotient = r / s;
+            (r, s) = (s, r % s);
+            (t, u) = (u, (t + (q - quotient * u % q)) % q);
+        }
+        (r == 1).then_some(t)
     }
 }
 
@@ -40,23 +56,22 @@ impl Ring for Residues {
     }
 
     fn sum(&self, a: u64, b: u64) -> u64 {
-        modular::add(a, b, self.q)
+        let c = self.remainder(a) + self.remainder(b);
+        if c < self.q { c } else { c - self.q }
     }
 
     fn negative(&self, a: u64) -> u64 {
-        modular::negate(a, self.q)
+        let r = self.remainder(a);
+        if r == 0 { 0 } else { self.q - r }
     }
 
     fn product(&self, a: u64, b: u64) -> u64 {
-        modular::multiply(a, b, self.q)
+        self.remainder(a) * self.remainder(b) % self.q
     }
 }
 
 impl Field for Residues {
     fn inverse(&self, a: u64) -> Result<u64, RingFault> {
-        match modular::invert(a, self.q) {
-            Some(b) => Ok(b),
-            None => Err(RingFault::NoInverse(a)),
-        }
+        self.invert(a).ok_or(RingFault::NoInverse(a))
     }
 }

@@ -1,5 +1,5 @@
 // Reading a track.
-ghost use Rattle.std.specs.Prelude.{◌≡◌, ◌+◌, ◌*◌, ◌≤◌, length, IfOk};
+ghost use Rattle.std.specs.Prelude.{◌≡◌, ◌↔◌, ◌<◌, IsSome, IfOk};
 ghost use Rattle.lists.specs.Tracks.{Opens, mark_in, marks_from};
 
 use super::Track;
@@ -12,6 +12,7 @@ impl<'a> Track<'a> {
     pub fn open(bytes: &'a [u8]) -> Result<Track<'a>, Refusal>
         ensures { Opens bytes.now result }
     {
+        // The pattern names the bytes of the head, and binds the marks.
         let [n0, n1, n2, n3, o0, o1, o2, o3, marks @ ..] = bytes else {
             return Err(Refusal::Track);
         };
@@ -32,24 +33,23 @@ impl<'a> Track<'a> {
 
     // The mark of a number, from 0.
     pub fn mark(&self, number: u64) -> Option<u32>
-        ensures { result ≡ mark_in self.now.bytes.now self.now.count number }
+        ensures value { result ≡ mark_in self.now.bytes.now self.now.count number }
+        ensures there { IsSome result ↔ (number < self.now.count) }
     {
         if number >= u64::from(self.count) {
             return None;
         }
         word_at(self.bytes, 8 + 4 * number as usize)
     }
+
     // The marks, one after the other.
     pub fn marks(&self, heap: Global) -> Result<Vec<u32>, AllocError>
-        ensures { IfOk result (λ v. 8 + 4 * self.now.count ≤ length self.now.bytes.now → v.items ≡ marks_from self.now.bytes.now 0 self.now.count) }
+        ensures { IfOk result (λ v. v.items ≡ marks_from self.now.bytes.now 0 self.now.count) }
     {
-        let mut marks = Vec::new(heap);
-        for k in 0..self.count {
-            let Some(mark) = self.mark(u64::from(k)) else {
-                return Ok(marks);
-            };
-            marks.push(mark)?;
-        }
-        Ok(marks)
+        let (words, _) = self.bytes[8..].as_chunks();
+        words
+            .iter()
+            .map(|word| u32::from_le_bytes(*word))
+            .collect(heap)
     }
 }

@@ -1,74 +1,64 @@
-// Putting bytes, words and numbers behind what a buffer holds. What finds no room is left out.
-ghost use Rattle.std.specs.Prelude.{◌≡◌, [], ◌∷◌, decimal};
-ghost use Rattle.octets.specs.Buffers.{held, joined, laid_over};
-ghost use Rattle.octets.specs.Words.{word as word_bytes, half as half_bytes};
+// Putting bytes, numbers and their low bytes behind what a buffer holds. What finds no room is left out.
+ghost use Rattle.std.specs.Prelude.{◌≡◌, [], ◌∷◌, ◌≤◌, length, min, decimal};
+ghost use Rattle.octets.specs.Buffers.{joined, laid_over};
+ghost use Rattle.octets.specs.Words.{low_bytes};
 
 use super::Buffer;
+use arrayvec::ArrayVec;
 
 impl Buffer {
     pub fn new() -> Buffer
-        ensures { held result ≡ [] }
+        ensures { result ≡ [] }
     {
         Buffer {
-            bytes: [0; 112],
-            count: 0,
+            bytes: ArrayVec::new(),
         }
     }
 
     pub fn as_slice(&self) -> &[u8]
-        ensures { result.now ≡ held self.now }
+        ensures value { result.now ≡ self.now }
+        ensures fits { length result.now ≤ 112 }
     {
-        &self.bytes[0..self.count]
+        self.bytes.as_slice()
     }
 
     pub fn byte(&mut self, b: u8)
-        ensures { held self.new ≡ joined (held self.old) (b ∷ []) }
+        ensures { self.new ≡ joined self.old (b ∷ []) }
     {
-        if self.count < 112 {
-            self.bytes[self.count] = b;
-            self.count += 1;
-        }
+        let _ = self.bytes.try_push(b);
     }
 
     pub fn text(&mut self, bytes: &[u8])
-        ensures { held self.new ≡ joined (held self.old) bytes.now }
+        ensures { self.new ≡ joined self.old bytes.now }
     {
-        for b in bytes {
-            self.byte(*b);
-        }
+        let n = bytes.len().min(self.bytes.remaining_capacity());
+        let _ = self.bytes.try_extend_from_slice(&bytes[..n]);
     }
 
     // The decimal digits of n.
     pub fn number(&mut self, n: u64)
-        ensures { held self.new ≡ joined (held self.old) (decimal n) }
+        ensures { self.new ≡ joined self.old (decimal n) }
     {
-        if n >= 10 {
-            self.number(n / 10);
-        }
-        self.byte(b'0' + (n % 10) as u8);
+        self.text(itoa::Buffer::new().format(n).as_bytes());
     }
 
-    // The low four bytes of n.
-    pub fn word(&mut self, n: u64)
-        ensures { held self.new ≡ joined (held self.old) (word_bytes n) }
+    // The low N bytes of n, the lowest first; all eight where N is above 8.
+    pub fn low<const N: usize>(&mut self, n: u64)
+        ensures { self.new ≡ joined self.old (low_bytes N n) }
     {
         let bytes = n.to_le_bytes();
-        self.text(&bytes[0..4]);
+        self.text(&bytes[..N.min(8)]);
     }
 
-    // The low two bytes of n.
-    pub fn half(&mut self, n: u64)
-        ensures { held self.new ≡ joined (held self.old) (half_bytes n) }
+    // Writes what is held over the front of the output, as far as that goes, and answers how many bytes were written.
+    // What lies behind them stays as found.
+    pub fn lay_over(&self, out: &mut [u8]) -> usize
+        ensures value { result ≡ min (length self.now) (length out.old) }
+        ensures after { out.new ≡ laid_over self.now out.old }
     {
-        let bytes = n.to_le_bytes();
-        self.text(&bytes[0..2]);
-    }
-
-    // Writes what is held over the front of the output, as far as that goes. What lies behind stays as found.
-    pub fn lay_over(&self, out: &mut [u8])
-        ensures { out.new ≡ laid_over (held self.now) out.old }
-    {
-        let n = self.count.min(out.len());
-        out[0..n].copy_from_slice(&self.bytes[0..n]);
+        let bytes = self.as_slice();
+        let n = bytes.len().min(out.len());
+        out[..n].copy_from_slice(&bytes[..n]);
+        n
     }
 }

@@ -1,7 +1,6 @@
 // Calls as values: one of them, and a whole list from the start.
 ghost use Rattle.std.specs.Prelude.{◌≡◌};
 ghost use Rattle.roots.specs.Drafts.{answer, next};
-ghost use Rattle.roots.specs.Held.{held_state};
 ghost use Rattle.roots.specs.Laws.{Kept};
 ghost use Rattle.roots.specs.Runs.{step, run};
 
@@ -12,8 +11,8 @@ use ring::Field;
 
 impl<F: Field> Draft<F> {
     pub fn call(&mut self, call: Call) -> Result<u64, Refusal>
-        ensures value { result ≡ answer (step (F.Ring.meaning self.old.field) (held_state self.old.held) call) }
-        ensures after { held_state self.new.held ≡ next (held_state self.old.held) (step (F.Ring.meaning self.old.field) (held_state self.old.held) call) }
+        ensures value { result ≡ answer (step (F.Ring.meaning self.old.field) self.old.held call) }
+        ensures after { self.new.held ≡ next self.old.held (step (F.Ring.meaning self.old.field) self.old.held call) }
         ensures field { self.new.field ≡ self.old.field }
     {
         match call {
@@ -26,9 +25,9 @@ impl<F: Field> Draft<F> {
 
     // The draft after a list of calls from the start, refused ones among them.
     pub fn replay(field: F, calls: &[Call]) -> Draft<F>
-        ensures value { held_state result.held ≡ run (F.Ring.meaning field) calls.now }
+        ensures value { result.held ≡ run (F.Ring.meaning field) calls.now }
         ensures field { result.field ≡ field }
-        ensures kept { Kept (F.Ring.meaning field) calls.now (held_state result.held) }
+        ensures kept { Kept (F.Ring.meaning field) calls.now result.held }
     {
         let mut draft = Draft::start(field);
         for call in calls {

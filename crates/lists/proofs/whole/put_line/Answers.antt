@@ -1,20 +1,29 @@
-use Rattle.std.proofs.Common.{ℕ, List, ◌++◌, take, replicate, vec_items, ap, ◌∙◌}
-use native.Mathlib.Nat.{sub-zero}
-use Rattle.lists.specs.Calls.{mark_called}
-use Rattle.lists.proofs.Listing.{front_is, puts_line, puts_none}
+use Rattle.std.proofs.Common.{ℕ, None, Result, replicate, refl, sym, subst, vec_items, rules, arith}
+use Rattle.std.proofs.lemmas.List.{length-take-le}
+use Rattle.std.specs.Fn.{FnOnceReturnsAtMut}
+use Rattle.refusals.specs.declared.Refusal.{Refusal}
+use Rattle.lists.specs.Calls.{PutsFront}
 use Rattle.lists.proofs.whole.put_line.Goals as goal
 
-pub returns-in_ok-extend_from_slice-in-Ok : goal.returns-in_ok-extend_from_slice-in-Ok
-returns-in_ok-extend_from_slice-in-Ok c =
-    let call = mark_called c.args.book.now c.args.track.now c.args.number 96 in
-    let before = vec_items c.args.out.now in
-    let front = front_is call (replicate 96 0) c.mark_line.new.line c.in-Ok.length c.in-Ok.ensures.value c.in-Ok.ensures.after in
-    puts_line call front.0 before (vec_items c.extend_from_slice.new.self) front.1
-    (c.in_ok-extend_from_slice-in-Ok.ensures.items
-    ∙ ap (λ (n : ℕ). before ++ take n c.mark_line.new.line) (sub-zero c.in-Ok.length)
-    ∙ ap (λ (part : List ℕ). before ++ part) front.2)
+pub returns-in_default : goal.returns-in_default
+returns-in_default g c =
+    let before = vec_items c.args.out.now in (
+      c.call.result,
+      c.call.new.arg2,
+      search rules,
+      subst (λ (answer : Result ℕ Refusal). PutsFront answer c.call.new.arg2 before None before) (sym c.in_default.is) (refl, refl),
+    )
 
-pub returns-in-Err : goal.returns-in-Err
-returns-in-Err c =
-    puts_none (mark_called c.args.book.now c.args.track.now c.args.number 96) (vec_items c.args.out.now) c.in-Err.field-0
-    c.in-Err.ensures.value
+pub slice_bounds-line-end : goal.slice_bounds-line-end
+slice_bounds-line-end g c =
+    let called : FnOnceReturnsAtMut g.F.FnOnce c.args.call (replicate 96 0) c.call.result c.call.new.arg2 = search rules in
+    let fits = c.requires.fits (replicate 96 0) c.in-Ok.length c.call.new.arg2
+    (subst (λ (answer : Result ℕ Refusal). FnOnceReturnsAtMut g.F.FnOnce c.args.call (replicate 96 0) answer c.call.new.arg2) c.in-Ok.is called) in
+    omega arith
+
+pub slice_bounds-extend_from_slice-end : goal.slice_bounds-extend_from_slice-end
+slice_bounds-extend_from_slice-end g c =
+    let called : FnOnceReturnsAtMut g.F.FnOnce c.args.call (replicate 96 0) c.call.result c.call.new.arg2 = search rules in
+    let fits = c.requires.fits (replicate 96 0) c.in-Ok.length c.call.new.arg2
+    (subst (λ (answer : Result ℕ Refusal). FnOnceReturnsAtMut g.F.FnOnce c.args.call (replicate 96 0) answer c.call.new.arg2) c.in-Ok.is called) in
+    omega (arith, length-take-le c.in-Ok.length c.call.new.arg2)

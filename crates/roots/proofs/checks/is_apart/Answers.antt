@@ -1,13 +1,12 @@
-use Rattle.roots.proofs.Rows.{apart_turn, apart_fails, apart_end}
+use Rattle.std.proofs.Common.{eqb, ◌∙◌, rules}
+use Rattle.std.proofs.lemmas.Iterator.{YieldsList-from_slice}
+use Rattle.std.proofs.lemmas.Iterator.Search.{all_from_yields_List}
+use borrow.Author.Tests.{tests}
+use Rattle.roots.specs.Checks.{gcd}
+use Rattle.roots.proofs.Rows.{apart_all}
 use Rattle.roots.proofs.checks.is_apart.Goals as goal
 
-pub returns-then-gcd-ne1 : goal.returns-then-gcd-ne1
-returns-then-gcd-ne1 c =
-    apart_fails _ _ _ _ _ c.loop-factor-test.true c.gcd.ensures c.if-gcd-ne1.true c.loop-factor.invariant
-
-pub loop-factor-preserved : goal.loop-factor-preserved
-loop-factor-preserved c =
-    apart_turn _ _ _ _ _ c.loop-factor-test.true c.gcd.ensures c.if-gcd-ne1.false c.loop-factor.invariant
-
 pub returns : goal.returns
-returns c = apart_end _ _ _ c.loop-factor-test.false c.loop-factor.invariant
+returns c =
+    all_from_yields_List (λ h. eqb (gcd c.args.r h.r) 1) _ _ _ c.all.ensures.ran (YieldsList-from_slice c.args.factors.now cc) (λ x b q k. search (rules, tests))
+    ∙ apart_all c.args.r c.args.factors.now

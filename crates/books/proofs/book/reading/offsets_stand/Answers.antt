@@ -1,20 +1,13 @@
-use Rattle.std.proofs.Common.{◌+◌, ◌*◌, sym, ◌∙◌}
-use Rattle.books.proofs.OffsetLoop.{word_found, stands_on, stands_not, stands_all}
+use Rattle.std.proofs.Common.{rules, refl, ◌∙◌, arith}
+use Rattle.std.proofs.lemmas.Iterator.{YieldsList-from_range}
+use Rattle.std.proofs.lemmas.Iterator.Search.{all_from_yields_List}
+use Rattle.books.proofs.Offsets.{stated, all_stated}
 use Rattle.books.proofs.book.reading.offsets_stand.Goals as goal
 
-pub returns-then-found-count : goal.returns-then-found-count
-returns-then-found-count c =
-    let book = c.args.bytes.now in
-    let k = c.loop-k.k in
-    let found = word_found book (16 + 4 * k) c.in-Some.found c.in-Some.ensures in
-    sym (c.loop-k.invariant ∙ stands_not book c.args.count k c.loop-k-test.true (λ e. c.if-found-count.true (found ∙ e)))
-
-pub loop-k-preserved : goal.loop-k-preserved
-loop-k-preserved c =
-    let book = c.args.bytes.now in
-    let k = c.loop-k.k in
-    let found = word_found book (16 + 4 * k) c.in-Some.found c.in-Some.ensures in
-    c.loop-k.invariant ∙ stands_on book c.args.count k c.loop-k-test.true (sym found ∙ c.if-found-count.false)
-
 pub returns : goal.returns
-returns c = sym (c.loop-k.invariant ∙ stands_all c.args.bytes.now c.args.count c.loop-k.k c.loop-k-test.false)
+returns c =
+    let book = c.args.bytes.now in
+    let n = c.args.count in
+    all_from_yields_List (stated book n) _ _ c.all.result c.all.ensures.ran
+    (YieldsList-from_range 0 n n refl (omega arith)) (λ x b q k. search rules)
+    ∙ all_stated book n 0 n (omega arith)

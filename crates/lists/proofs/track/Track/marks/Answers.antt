@@ -1,18 +1,24 @@
-use Rattle.std.proofs.Common.{ℕ, vec_items, sym, ap, ◌∙◌}
-use Rattle.lists.specs.Tracks.{mark_in}
-use Rattle.lists.proofs.Answering.{mark_found}
-use Rattle.lists.proofs.Taken.{taken_on, taken_all}
+use Rattle.std.proofs.Common.{◌≡◌, ℕ, ◌-◌, ◌/◌, List, length, take, drop, map, vec_items, rules, ap, ap₂, ◌∙◌, arith}
+use Rattle.std.specs.Simd.{first_chunks}
+use Rattle.std.proofs.lemmas.Iterator.{YieldsList-from_slice, YieldsList-from_map, items_from_collect}
+use Rattle.std.proofs.lemmas.List.{length-drop, take_rest}
+use Rattle.std.proofs.lemmas.Result.{IfOk-weaker}
+use Rattle.octets.specs.Words.{word_at}
+use Rattle.lists.specs.Tracks.{marks_from}
+use Rattle.lists.proofs.Taken.{marks_taken}
 use Rattle.lists.proofs.track.Track.marks.Goals as goal
 
-pub loop-k-preserved : goal.loop-k-preserved
-loop-k-preserved c =
-    let t = c.args.self.now in
-    let k = c.loop-k.k in
-    let found = mark_found t.bytes.now t.count k c.in-Some.mark (c.in-Some.ensures ∙ ap (λ (n : ℕ). mark_in t.bytes.now t.count n) c.from.ensures) in
-    c.loop-k.invariant
-    ∙ taken_on t.bytes.now (vec_items c.loop-k.marks) (vec_items c.push.new.self) t.count k c.in-Some.mark found.0 found.1
-    c.in_ok-push.ensures.items
-
 pub returns : goal.returns
-returns c = λ whole.
-    sym (c.loop-k.invariant ∙ taken_all c.args.self.now.bytes.now (vec_items c.loop-k.marks) c.args.self.now.count c.loop-k.k c.loop-k-test.false)
+returns c =
+    let t = c.args.self.now in
+    let read = λ (w : List ℕ). word_at w 0 in
+    let words = c.as_chunks.result.0.now in
+    let tail = take_rest t.bytes.now 8 in
+    let whole = t.whole in
+    let many : length (take (length t.bytes.now - 8) (drop 8 t.bytes.now)) / 4 ≡ t.count =
+    omega (arith, ap length tail, length-drop 8 t.bytes.now) in
+    let is : words ≡ first_chunks 4 t.count (drop 8 t.bytes.now) = c.as_chunks.ensures.front ∙ ap₂ (first_chunks 4) many tail in
+    IfOk-weaker c.collect.result (λ v. vec_items v ≡ map read words) (λ v. vec_items v ≡ marks_from t.bytes.now 0 t.count)
+    (λ v e. e ∙ ap (map read) is ∙ marks_taken t.bytes.now 0 t.count)
+    (items_from_collect c.collect.result c.collect.ensures.ran
+    (YieldsList-from_map _ read (YieldsList-from_slice words cc) c.map.ensures.closure (λ x r q k. search rules)))

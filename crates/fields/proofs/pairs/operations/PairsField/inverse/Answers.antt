@@ -1,26 +1,28 @@
-use Rattle.std.proofs.Common.{refl, arith}
-use Rattle.fields.proofs.Conjugates.{conjugate_found, conjugate_none}
-use Rattle.fields.proofs.Reduced.{product_le, square_fits}
+use Rattle.std.proofs.Common.{arith}
+use Rattle.std.proofs.lemmas.Result.{err_from_is_err_and}
+use Rattle.fields.proofs.Conjugates.{conjugate_found, conjugate_none, norm_fits}
 use Rattle.fields.proofs.pairs.operations.PairsField.inverse.Goals as goal
 
-pub overflow_add-x : goal.overflow_add-x
-overflow_add-x c =
-    omega (
-      arith,
-      product_le _ _ _ _ _ c.args.self.now.low c.real-x.ensures c.real-x.ensures,
-      product_le _ _ _ _ _ c.args.self.now.low c.imaginary-y.ensures c.imaginary-y.ensures,
-      square_fits _ c.args.self.now.high,
+pub overflow_add-norm : goal.overflow_add-norm
+overflow_add-norm c =
+    let base = c.args.self.now.base in
+    omega (arith, norm_fits base.q c.args.a _ _ base.low base.high c.real-x.ensures c.imaginary-y.ensures)
+
+pub returns-in_err-v : goal.returns-in_err-v
+returns-in_err-v c =
+    let base = c.args.self.now.base in
+    let passed = err_from_is_err_and c.from_residual.result c.from_residual.ensures.1 in
+    let none = c.in_err-v.ensures.ok_part in
+    let fault = rw none at c.in_err-v.ensures.value in
+    rw (passed.1, passed.2) (
+      cc fault,
+      conjugate_none base.q c.args.a _ _ base.low base.high c.real-x.ensures c.imaginary-y.ensures
+          (rw none at c.invert.ensures),
     )
 
-pub returns-in-Some : goal.returns-in-Some
-returns-in-Some c =
-    conjugate_found c.args.self.now.p c.args.a c.real-x.result c.imaginary-y.result
-    c.args.self.now.low c.args.self.now.high c.real-x.ensures c.imaginary-y.ensures c.in-Some.v
-    c.code.result c.in-Some.ensures.1 (omega (arith, c.code.ensures))
-
-pub returns-in-None : goal.returns-in-None
-returns-in-None c = (
-  refl,
-  conjugate_none c.args.self.now.p c.args.a _ _ c.args.self.now.low c.args.self.now.high
-      c.real-x.ensures c.imaginary-y.ensures c.in-None.ensures,
-)
+pub returns : goal.returns
+returns c =
+    let base = c.args.self.now.base in
+    let found = rw c.in_ok-v.ensures.ok_part at c.invert.ensures in
+    conjugate_found base.q c.args.a c.real-x.result c.imaginary-y.result base.low base.high
+    c.real-x.ensures c.imaginary-y.ensures c.in_ok-v.v c.code.result found.1 (rw c.size-p.ensures at c.code.ensures)
