@@ -44,7 +44,7 @@ pub(crate) enum Fault {
     Memory(#[from(alloc)] AllocError),
 }
 
-// The reason of a refusal as the maker of a book meets it: the field is one of residues, and a root that is given is a ζ.
+// The reason of a refusal as the maker of a book meets it: the field is one of residues, a root that is given is a ζ, and what is written is a book.
 #[derive(Clone, Copy)]
 struct Reason(Refusal);
 

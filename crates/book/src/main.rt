@@ -19,6 +19,7 @@ use words::Task;
 const ROOM: usize = 112;
 
 fn put_book(rt: &HostRuntime, plan: &Plan<Residues>) -> Result<(), Fault> {
+    // An array, and the length answered: what writes takes bytes handed over, and no heap.
     let mut out = [0u8; ROOM];
     let length = write_book(plan, &mut out).map_err(|why| Step::Book.refused(why))?;
     rt.stdout().write_all(&out[..length])?;

@@ -21,6 +21,7 @@ fn put_line<F: FnOnce(&mut [u8]) -> Result<usize, Refusal>>(
     requires fits { (line : List ℕ) (n : ℕ) (after : List ℕ) → FnOnceReturnsAtMut F.FnOnce call line (Ok n) after → n ≤ 96 }
     ensures { IfOk result (λ put. (answer : Result ℕ Refusal) × (line : List ℕ) × FnOnceReturnsAtMut F.FnOnce call (replicate 96 0) answer line × PutsFront answer line out.old.items put out.new.items) }
 {
+    // An array, since the call takes bytes handed over, as in C.
     let mut line = [0u8; 96];
     let Ok(length) = call(&mut line) else {
         return Ok(None);

@@ -16,7 +16,7 @@ pub(crate) fn divided_out(r: u64, f: u16, n: u64) -> Option<u64>
 }
 
 // What is left of n once r is divided out as often as it goes in, and how often that is. For n above 0 and r above 1 it is below 64.
-// A pair, and no struct: each caller takes it apart at once.
+// A pair, and no struct: each caller takes it apart at once. A loop, since how often r goes in is wanted too.
 pub(crate) fn parted(r: u64, n: u64) -> (u64, u16)
     requires { 0 < r }
     ensures left { result.0 ≡ cofactor r n }

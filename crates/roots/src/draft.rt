@@ -60,7 +60,7 @@ impl<F: Field> Draft<F> {
     }
 
     // Sets the fourth root, a number whose square is the negative of 1. A later one replaces it.
-    // This and seeking one share too little for one function: it would take what finds the root, and promise by way of that.
+    // Not one function with seeking one: its clauses would say what is answered only by way of what a closure tells.
     pub fn give(&mut self, root: u64) -> Result<u64, Refusal>
         ensures value { result ≡ answer (given (F.Ring.meaning self.old.field) self.old.held root) }
         ensures after { self.new.held ≡ next self.old.held (given (F.Ring.meaning self.old.field) self.old.held root) }

@@ -4,7 +4,6 @@ ghost use Rattle.roots.specs.Clauses.{RootLaws};
 ghost use Rattle.roots.specs.Rooting.{rooted, answered};
 
 use crate::gathered::{Closed, Gathered};
-use crate::root::root_mark;
 use refusals::Refusal;
 use ring::Field;
 
@@ -20,6 +19,6 @@ impl<F: Field> Plan<F> {
         ensures value { result ≡ answered (rooted (F.Ring.meaning self.now.field) self.now.held mark) }
         ensures laws { RootLaws (F.Ring.meaning self.now.field) self.now.held mark result }
     {
-        root_mark(&self.field, &self.held, mark)
+        self.root_mark(mark)
     }
 }

@@ -10,7 +10,7 @@ use crate::checks::is_served;
 use crate::divide::parted;
 use crate::finish::in_order;
 use crate::holdings::Held;
-use crate::plan::Answer;
+use crate::plan::{Answer, Plan};
 use crate::search::Search;
 use joining::{Back, Ladder, Multiplication, Ratios, power};
 use refusals::Refusal;
@@ -54,41 +54,44 @@ impl<'a, F: Field> Search<'a, F> {
     }
 }
 
-// Steps 1 to 6 for a mark that passed the checks.
-fn root_by_steps<F: Field>(field: &F, held: &Held, i: u64, mark: u64) -> Result<Answer, Refusal>
-    requires { held.now.rest ≤ 1024 }
-    ensures { result ≡ answered (tested (F.Ring.meaning field.now) i held.now mark) }
-{
-    let (w, testing) = power(&Multiplication::new(field), mark, (field.size() - 1) / 2);
-    if w != 1 {
-        return Err(Refusal::NoSquare);
+impl<F: Field> Plan<F> {
+    // Steps 1 to 6 for a mark that passed the checks.
+    fn root_by_steps(&self, i: u64, mark: u64) -> Result<Answer, Refusal>
+        requires { self.now.held.rest ≤ 1024 }
+        ensures { result ≡ answered (tested (F.Ring.meaning self.now.field) i self.now.held mark) }
+    {
+        let field = &self.field;
+        let (w, testing) = power(&Multiplication::new(field), mark, (field.size() - 1) / 2);
+        if w != 1 {
+            return Err(Refusal::NoSquare);
+        }
+        let ratios = Ratios::new(field, mark);
+        let (begun, beginning) = first_code(&ratios, self.held.rest())?;
+        let joinings = testing + beginning;
+        match begun {
+            Begun::Root(g) => Ok((in_order(g, field.negative(g)), (joinings, 0))),
+            Begun::Kept(g) => Search { ratios, g }.root(&self.held, i, joinings),
+        }
     }
-    let ratios = Ratios::new(field, mark);
-    let (begun, beginning) = first_code(&ratios, held.rest())?;
-    let joinings = testing + beginning;
-    match begun {
-        Begun::Root(g) => Ok((in_order(g, field.negative(g)), (joinings, 0))),
-        Begun::Kept(g) => Search { ratios, g }.root(held, i, joinings),
-    }
-}
 
-// The checks before the steps, in their order, and then the steps.
-pub(crate) fn root_mark<F: Field>(field: &F, held: &Held, mark: u64) -> Result<Answer, Refusal>
-    ensures { result ≡ answered (rooted (F.Ring.meaning field.now) held.now mark) }
-{
-    let size = field.size();
-    if !is_served(size) {
-        return Err(Refusal::Size);
+    // The checks before the steps, in their order, and then the steps.
+    pub(crate) fn root_mark(&self, mark: u64) -> Result<Answer, Refusal>
+        ensures { result ≡ answered (rooted (F.Ring.meaning self.now.field) self.now.held mark) }
+    {
+        let size = self.field.size();
+        if !is_served(size) {
+            return Err(Refusal::Size);
+        }
+        let i = self.held.fourth().ok_or(Refusal::NoFourth)?;
+        if self.held.rest() > 1024 {
+            return Err(Refusal::Rest);
+        }
+        if mark >= size {
+            return Err(Refusal::Mark);
+        }
+        if mark == 0 {
+            return Err(Refusal::Zero);
+        }
+        self.root_by_steps(i, mark)
     }
-    let i = held.fourth().ok_or(Refusal::NoFourth)?;
-    if held.rest() > 1024 {
-        return Err(Refusal::Rest);
-    }
-    if mark >= size {
-        return Err(Refusal::Mark);
-    }
-    if mark == 0 {
-        return Err(Refusal::Zero);
-    }
-    root_by_steps(field, held, i, mark)
 }

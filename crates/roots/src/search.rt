@@ -84,6 +84,7 @@ impl<'a, R: Ring> Search<'a, R> {
     {
         let mut joinings = n;
         let mut tests = 0;
+        // whether a factor has served so far, which tells step 5 from step 4
         let mut served = false;
         // the first match leaves both loops at once
         let found = 'search: {
@@ -106,6 +107,7 @@ impl<'a, R: Ring> Search<'a, R> {
             }
             None
         };
+        // not by ok_or, which would make the refusal also where a ratio is found
         let Some(ratio) = found else {
             return Err(self.unlawful(if served { 5 } else { 4 }));
         };

@@ -7,7 +7,7 @@ use roots::house::{Row, house_row};
 use roots::plan::Plan;
 use std::test::Fail;
 
-// modulus, fourth root, and a factor r with its power f and ζ; a row without a factor has 0 there, as in the table
+// modulus, fourth root, and a factor r with its power f and ζ; a row without a factor has 0 there; plain rows, as the table has
 const HOUSE: [(u64, u64, u64, u16, u64); 7] = [
     (17, 4, 0, 0, 0),
     (41, 9, 5, 1, 16),

@@ -15,10 +15,10 @@ use std::process::ExitCode;
 fn refuse_arguments(rt: &HostRuntime) -> Result<(), Fault> {
     let mut words = env::args(rt)?;
     let _program = words.next();
-    match words.next() {
-        Some(_) => Err(Fault::Arguments),
-        None => Ok(()),
+    if words.next().is_some() {
+        return Err(Fault::Arguments);
     }
+    Ok(())
 }
 
 // Nothing is written before all marks are read, so that an error leaves standard output empty.

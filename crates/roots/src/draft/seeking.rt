@@ -12,7 +12,7 @@ use ring::Field;
 
 impl<F: Field> Draft<F> {
     // Takes the factor r with the power f and the first ζ of order exactly r that a code leads to.
-    // No one function with adopting: it would take what finds ζ, and its promise would be by way of that closure's.
+    // Not one function with adopting: its clauses would say what is answered only by way of what a closure tells.
     pub fn seek(&mut self, r: u64, f: u16) -> Result<u64, Refusal>
         ensures value { result ≡ answer (sought (F.Ring.meaning self.old.field) self.old.held r f) }
         ensures after { self.new.held ≡ next self.old.held (sought (F.Ring.meaning self.old.field) self.old.held r f) }
