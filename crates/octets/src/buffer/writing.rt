@@ -4,14 +4,14 @@ ghost use Rattle.octets.specs.Buffers.{joined, laid_over};
 ghost use Rattle.octets.specs.Words.{low_bytes};
 
 use super::Buffer;
-use arrayvec::ArrayVec;
 
 impl Buffer {
     pub fn new() -> Buffer
         ensures { result ≡ [] }
     {
         Buffer {
-            bytes: ArrayVec::new(),
+            bytes: [0; 112],
+            count: 0,
         }
     }
 
@@ -19,20 +19,24 @@ impl Buffer {
         ensures value { result.now ≡ self.now }
         ensures fits { length result.now ≤ 112 }
     {
-        self.bytes.as_slice()
+        &self.bytes[..self.count]
     }
 
     pub fn byte(&mut self, b: u8)
         ensures { self.new ≡ joined self.old (b ∷ []) }
     {
-        let _ = self.bytes.try_push(b);
+        if self.count < 112 {
+            self.bytes[self.count] = b;
+            self.count += 1;
+        }
     }
 
     pub fn text(&mut self, bytes: &[u8])
         ensures { self.new ≡ joined self.old bytes.now }
     {
-        let n = bytes.len().min(self.bytes.remaining_capacity());
-        let _ = self.bytes.try_extend_from_slice(&bytes[..n]);
+        let n = bytes.len().min(112 - self.count);
+        self.bytes[self.count..self.count + n].copy_from_slice(&bytes[..n]);
+        self.count += n;
     }
 
     // The decimal digits of n.

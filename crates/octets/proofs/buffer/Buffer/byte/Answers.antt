@@ -1,21 +1,28 @@
-use Rattle.std.proofs.Common.{◌≡◌, ℕ, ◌<◌, List, [], ◌∷◌, ◌++◌, length, Result, Ok, Err, refl, sym, ap, ◌∙◌, arith}
-use Rattle.std.specs.Result.{IsOk, OnOk, OnErr}
-use Rattle.std.proofs.lemmas.Result.{on_err_weaker}
-use Rattle.arrayvec.specs.ArrayVec.{ArrayVec}
+use Rattle.std.proofs.Common.{◌+◌, [], ◌∷◌, take, sym, ap, ◌∙◌, arith}
+use Rattle.std.proofs.lemmas.List.{take_more_set, length-set, drop-set-lt}
 use Rattle.octets.specs.Buffers.{joined}
-use Rattle.octets.proofs.Joined.{joined_all, joined_full}
+use Rattle.octets.proofs.Joined.{joined_all, joined_full, held_length, zeros_behind}
 use Rattle.octets.proofs.buffer.Buffer.byte.Goals as goal
 
--- a byte that is pushed where there is room for it
-pushed : {T E : Type 0} (r : Result T E) (old new byte : List ℕ) → length byte ≡ 1 → (IsOk r → length old < 112)
-    → OnOk r (new ≡ old ++ byte) → OnErr r (new ≡ old) → OnErr r (length old ≡ 112) → new ≡ joined old byte
-pushed (Ok x) old new byte one room ok err full = let fits = room refl in ok ∙ sym (joined_all old byte (omega arith))
-pushed (Err e) old new byte one room ok err full = err ∙ sym (joined_full old byte full)
+pub invariant_of-self : goal.invariant_of-self
+invariant_of-self c =
+    let self = c.self.inside in (
+      omega (arith, c.if-self-lt112.true),
+      length-set self.bytes self.count c.args.b ∙ c.self.invariant.1,
+      drop-set-lt (self.count + 1) self.bytes self.count c.args.b (omega arith) ∙ zeros_behind self.bytes self.count 1 c.self.invariant.2,
+    )
 
-pub returns : goal.returns
-returns c =
-    let push = c.try_push.ensures in
-    let old = c.self.inside.bytes.items in
-    pushed c.try_push.result old c.try_push.new.self.items (c.args.b ∷ []) refl push.variant.0 push.ok
-    (on_err_weaker c.try_push.result (λ e. ap (λ (v : ArrayVec ℕ). v.items) e) push.err) push.full
+pub returns-then-self-lt112 : goal.returns-then-self-lt112
+returns-then-self-lt112 c =
+    let self = c.self.inside in
+    let few = held_length self.bytes self.count c.self.invariant.0 c.self.invariant.1 in
+    take_more_set self.bytes self.count c.args.b (omega (arith, c.self.invariant.1, c.if-self-lt112.true))
+    ∙ sym (joined_all (take self.count self.bytes) (c.args.b ∷ []) (omega (arith, c.if-self-lt112.true)))
+    ∙ ap (λ held. joined held (c.args.b ∷ [])) c.self.view_is
+
+pub returns-else-self-lt112 : goal.returns-else-self-lt112
+returns-else-self-lt112 c =
+    let self = c.self.inside in
+    let few = held_length self.bytes self.count c.self.invariant.0 c.self.invariant.1 in
+    sym c.self.view_is ∙ sym (joined_full (take self.count self.bytes) (c.args.b ∷ []) (omega (arith, c.self.invariant.0, c.if-self-lt112.false)))
     ∙ ap (λ held. joined held (c.args.b ∷ [])) c.self.view_is
