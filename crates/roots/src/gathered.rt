@@ -1,5 +1,6 @@
 // What is gathered over a field, in its two stages: a draft takes factors and a fourth root, and a plan roots marks.
-ghost use Rattle.std.specs.Prelude.{◌≡◌, ◌≤◌, length};
+ghost use Rattle.std.specs.Prelude.{◌≡◌, ◌≤◌, true, length};
+ghost use Rattle.roots.specs.Small.{all_small};
 
 use crate::factor::Factor;
 use crate::holdings::Held;
@@ -31,6 +32,7 @@ impl<F: Field, Stage> Gathered<F, Stage> {
 
     pub fn factors(&self) -> &[Factor]
         ensures value { result.now ≡ self.now.held.factors }
+        ensures small { all_small result.now ≡ true }
         ensures few { length result.now ≤ 8 }
     {
         self.held.factors()
