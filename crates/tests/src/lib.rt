@@ -15,6 +15,8 @@ mod house;
 #[cfg(test)]
 mod own_field;
 #[cfg(test)]
+mod shown;
+#[cfg(test)]
 mod unlawful;
 #[cfg(test)]
 mod worked;
