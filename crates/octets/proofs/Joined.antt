@@ -1,6 +1,7 @@
 -- What a buffer holds after one piece and then another.
 use Rattle.std.proofs.Common.{◌≡◌, ℕ, zero, suc, ◌+◌, ◌-◌, ◌<◌, ◌≤◌, min, List, [], ◌∷◌, ◌++◌, length, take, drop, replicate, sym, refl, ap, ◌∙◌, ⊎_elim, append_assoc, arith}
 use Rattle.std.proofs.lemmas.List.{append-nil, length-append, length-drop, take_all, take-append-le, length-take-le, take_min, drop_all, drop-replicate}
+use Rattle.std.proofs.Math.Nat.{sub-add-eq}
 use Rattle.std.proofs.Math.Seq.{take-append-add, drop-drop}
 use Rattle.std.proofs.lemmas.Bool.{cases_lt}
 use Rattle.octets.specs.Buffers.{joined, laid_over}
@@ -71,5 +72,4 @@ held_length bytes count room whole = length-take-le count bytes (omega arith)
 -- where the places behind what is held are 0, those further on are
 pub zeros_behind : (bytes : List ℕ) (count more : ℕ) → drop count bytes ≡ replicate (112 - count) 0 → drop (count + more) bytes ≡ replicate (112 - (count + more)) 0
 zeros_behind bytes count more zeros =
-    let left : 112 - count - more ≡ 112 - (count + more) = omega arith in
-    sym (drop-drop more count bytes) ∙ ap (drop more) zeros ∙ drop-replicate more (112 - count) 0 ∙ ap (λ n. replicate n 0) left
+    sym (drop-drop more count bytes) ∙ ap (drop more) zeros ∙ drop-replicate more (112 - count) 0 ∙ ap (λ n. replicate n 0) (sym (sub-add-eq 112 count more))

@@ -25,10 +25,7 @@ impl Buffer {
     pub fn byte(&mut self, b: u8)
         ensures { self.new ≡ joined self.old (b ∷ []) }
     {
-        if self.count < 112 {
-            self.bytes[self.count] = b;
-            self.count += 1;
-        }
+        self.text(&[b]);
     }
 
     pub fn text(&mut self, bytes: &[u8])
