@@ -21,6 +21,9 @@ pub struct Gathered<F, Stage> {
     pub(crate) field: F,
     pub(crate) held: Held,
     pub(crate) stage: PhantomData<Stage>,
+    // what is held keeps this of itself; said here, where other crates can see it
+    ghost small: { all_small held.factors ≡ true },
+    ghost few: { length held.factors ≤ 8 },
 }
 
 impl<F: Field, Stage> Gathered<F, Stage> {

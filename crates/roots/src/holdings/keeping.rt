@@ -42,7 +42,9 @@ impl Held {
     // One factor more, and the rest that it leaves.
     pub(crate) fn push(&mut self, factor: Factor, rest: u64)
         requires { (length self.old.factors < 8) × (base factor.r ≡ true) }
-        ensures { self.new ≡ record { factors = self.old.factors ++ (factor ∷ []); rest = rest; fourth = self.old.fourth } }
+        ensures value { self.new ≡ record { factors = self.old.factors ++ (factor ∷ []); rest = rest; fourth = self.old.fourth } }
+        ensures small { all_small self.new.factors ≡ true }
+        ensures few { length self.new.factors ≤ 8 }
     {
         self.factors.push(factor);
         self.rest = rest;
